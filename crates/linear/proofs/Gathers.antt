@@ -1,0 +1,166 @@
+-- Laws of tests that a loop gathers in one byte: it is 0 just where the test holds at every place.
+-- Assumes nothing.
+use mathlib.Core.Path.{_≡_, refl, sym, ap, subst, _∙_}
+use mathlib.Core.List.{List}
+use mathlib.Core.Bool.{Bool, true, false, cond}
+use Prim.Native.Nat.{ℕ, zero, suc, _+_, _-_, _*_, _^_, _<_, _≤_, min, zero-le}
+use native.Mathlib.Decide.{decLt}
+use native.Mathlib.Omega.{arith}
+use lib.Bits.{bitXor, bitAnd, bitOr, or-zero-l, or-add-and, and-le-l, and-le-r}
+use lib.Dec.{T, ltb, eqb, eqb→eq, lit<}
+use lib.ListN.{getD}
+use lib.Pow.{ones-lt, pow-mono}
+use borrow.Author.Tests.{lt-ltb, le-ltb}
+use Rattle.linear.specs.Tables.{every, from}
+use Rattle.linear.specs.Bits.{digit, number, byteOf}
+use Rattle.linear.specs.Trits.{trit, fitTrit, fitTrits, zeroTrits}
+use Rattle.linear.specs.Planes.{Shows, inside, fitBefore, zeroAfter, Looked}
+use Rattle.linear.proofs.Tables.{every-at, every-of, same₂}
+use Rattle.linear.proofs.Digits.{number-of, digit-number, digit-lt, digit-zero, and-digit, or-digit, xor-digit}
+use Rattle.linear.proofs.Strings.{byte-is}
+use Rattle.linear.proofs.Planes.{trit-at}
+
+-- ---- all places of some bytes
+
+bool-ext : (a b : Bool) → (T a → T b) → (T b → T a) → a ≡ b
+bool-ext true true f g = refl
+bool-ext false false f g = refl
+bool-ext true false f g = absurd (f tt)
+bool-ext false true f g = absurd (g tt)
+
+to-zero : (x : ℕ) → x ≡ 0 → T (eqb x 0)
+to-zero x e = rw e tt
+
+zero-digits : (x : ℕ) → x < 256 → ((k : ℕ) → k < 8 → digit x k ≡ 0) → x ≡ 0
+unfolding number
+zero-digits x h e = number-of 8 x (λ _. 0) h e
+
+-- one byte more
+pub gather : (test : ℕ → Bool) (i acc x : ℕ) → x < 256 → Shows test i x → eqb acc 0 ≡ every (8 * i) test → eqb (bitOr acc x) 0 ≡ every (8 * (i + 1)) test
+gather test i acc x h s e = bool-ext (eqb (bitOr acc x) 0) (every (8 * (i + 1)) test) to fro
+  where
+    to : T (eqb (bitOr acc x) 0) → T (every (8 * (i + 1)) test)
+    to z =
+        let o : bitOr acc x ≡ 0 = eqb→eq (bitOr acc x) 0 z in
+        let ea : acc ≡ 0 = omega (arith, or-add-and acc x, and-le-r acc x) in
+        let ex : x ≡ 0 = omega (arith, or-add-and acc x, and-le-l acc x) in
+        let before : T (every (8 * i) test) = subst T e (to-zero acc ea) in
+        every-of (8 * (i + 1)) test (λ j l. pick j l before ex (decLt j (8 * i)))
+      where
+        pick : (j : ℕ) → j < 8 * (i + 1) → T (every (8 * i) test) → x ≡ 0 → Dec (j < 8 * i) → T (test j)
+        pick j l b ex (yes r) = every-at (8 * i) test b j r
+        pick j l b ex (no r) =
+            let o : 8 * i + (j - 8 * i) ≡ j = omega arith in
+            rw o at (subst T (s (j - 8 * i) (omega arith)) (to-zero (digit x (j - 8 * i)) (ap (λ (z : ℕ). digit z (j - 8 * i)) ex ∙ digit-zero (j - 8 * i))))
+
+    fro : T (every (8 * (i + 1)) test) → T (eqb (bitOr acc x) 0)
+    fro z =
+        let ea : acc ≡ 0 = eqb→eq acc 0 (subst T (sym e) (every-of (8 * i) test (λ j l. every-at (8 * (i + 1)) test z j (omega arith)))) in
+        let ex : x ≡ 0 = zero-digits x h (λ k l. eqb→eq (digit x k) 0 (subst T (sym (s k l)) (every-at (8 * (i + 1)) test z (8 * i + k) (omega arith)))) in
+        to-zero (bitOr acc x) (omega (arith, or-add-and acc x))
+
+-- one byte more, where all before it were 0
+pub gather-zero : (test : ℕ → Bool) (i x : ℕ) → x < 256 → Shows test i x → true ≡ every (8 * i) test → eqb x 0 ≡ every (8 * (i + 1)) test
+gather-zero test i x h s e = ap (λ (y : ℕ). eqb y 0) (sym (or-zero-l x)) ∙ gather test i 0 x h s e
+
+-- a test that fails before n fails below every larger bound
+pub every-fails : (n k : ℕ) (test : ℕ → Bool) → n ≤ k → every n test ≡ false → false ≡ every k test
+every-fails n k test l e =
+    bool-ext false (every k test) (λ z. absurd z) (λ z. subst T e (every-of n test (λ j h. every-at k test z j (omega arith))))
+
+-- a test of the places before t
+every-before : (t n : ℕ) (test : ℕ → Bool) → every n (λ j. cond (ltb j t) (test j) true) ≡ every (min t n) test
+every-before t n test =
+    bool-ext (every n (λ j. cond (ltb j t) (test j) true)) (every (min t n) test)
+    (λ z. every-of (min t n) test (λ j l. rw (lt-ltb j t (omega arith)) at (every-at n (λ j. cond (ltb j t) (test j) true) z j (omega arith))))
+    (λ z. every-of n (λ j. cond (ltb j t) (test j) true) (λ j l. pick z j l (decLt j t)))
+  where
+    pick : T (every (min t n) test) → (j : ℕ) → j < n → Dec (j < t) → T (cond (ltb j t) (test j) true)
+    pick z j l (yes r) = rw (lt-ltb j t r) (every-at (min t n) test z j (omega arith))
+    pick z j l (no r) = rw (le-ltb j t (omega arith)) tt
+
+-- a test of the places from t on
+every-after : (t n : ℕ) (test : ℕ → Bool) → every n (λ j. cond (ltb j t) true (test j)) ≡ every (n - t) (λ k. test (t + k))
+every-after t n test =
+    bool-ext (every n (λ j. cond (ltb j t) true (test j))) (every (n - t) (λ k. test (t + k)))
+    (λ z. every-of (n - t) (λ k. test (t + k))
+    (λ k l. rw (le-ltb (t + k) t (omega arith)) at (every-at n (λ j. cond (ltb j t) true (test j)) z (t + k) (omega arith))))
+    (λ z. every-of n (λ j. cond (ltb j t) true (test j)) (λ j l. pick z j l (decLt j t)))
+  where
+    pick : T (every (n - t) (λ k. test (t + k))) → (j : ℕ) → j < n → Dec (j < t) → T (cond (ltb j t) true (test j))
+    pick z j l (yes r) = rw (lt-ltb j t r) tt
+    pick z j l (no r) =
+        let e : t + (j - t) ≡ j = omega arith in
+        rw (le-ltb j t (omega arith)) (rw e at (every-at (n - t) (λ k. test (t + k)) z (j - t) (omega arith)))
+
+pub all-fit : (m t : ℕ) (v : List ℕ) → every (8 * m) (fitBefore m t v) ≡ fitTrits m (min t (8 * m)) v
+unfolding fitTrits
+all-fit m t v = every-before t (8 * m) (fitTrit m v)
+
+pub all-zero : (m t : ℕ) (v : List ℕ) → every (8 * m) (zeroAfter m t v) ≡ zeroTrits m t v
+unfolding zeroTrits
+all-zero m t v = every-after t (8 * m) (λ j. eqb (trit m v j) 0)
+
+-- ---- the places of one byte
+
+-- the low r bits are the places before t
+pub places-are : (t i r : ℕ) → r ≡ min (t - 8 * i) 8 → 2 ^ r - 1 ≡ byteOf (inside t) i
+unfolding every
+places-are t i r e =
+    byte-is (inside t) i (2 ^ r - 1) (small r (omega arith))
+    (λ k l. same₂ 9 (λ r k. digit (2 ^ r - 1) k) (λ r k. cond (ltb k r) 1 0) tt r k (omega arith) (omega arith)
+    ∙ ap (λ (b : Bool). cond b 1 0) (pick k l (decLt k r)))
+  where
+    small : (r : ℕ) → r < 9 → 2 ^ r - 1 < 256
+    small r h = omega (arith, ones-lt r, pow-mono {i = r} {j = 8} (omega arith))
+
+    pick : (k : ℕ) → k < 8 → Dec (k < r) → ltb k r ≡ ltb (8 * i + k) t
+    pick k l (yes h) = lt-ltb k r h ∙ sym (lt-ltb (8 * i + k) t (omega arith))
+    pick k l (no h) = le-ltb k r (omega arith) ∙ sym (le-ltb (8 * i + k) t (omega arith))
+
+inside-lt : (b : Bool) → cond b 1 0 < 2
+inside-lt true = lit< tt
+inside-lt false = lit< tt
+
+inside-digit : (t i z k : ℕ) → z ≡ byteOf (inside t) i → k < 8 → digit z k ≡ inside t (8 * i + k)
+inside-digit t i z k e h =
+    ap (λ (x : ℕ). digit x k) e ∙ digit-number 8 (from (8 * i) (inside t)) (λ j. inside-lt (ltb (8 * i + j) t)) k h
+
+-- a fact of two bits holds where it holds of all four choices
+two-bits : (P : ℕ → ℕ → Type 0) → P 0 0 → P 0 1 → P 1 0 → P 1 1 → (a b : ℕ) → a < 2 → b < 2 → P a b
+two-bits P p q r s zero zero ha hb = p
+two-bits P p q r s zero (suc zero) ha hb = q
+two-bits P p q r s (suc zero) zero ha hb = r
+two-bits P p q r s (suc zero) (suc zero) ha hb = s
+two-bits P p q r s (suc (suc a)) b ha hb = absurd (omega arith)
+two-bits P p q r s zero (suc (suc b)) ha hb = absurd (omega arith)
+two-bits P p q r s (suc zero) (suc (suc b)) ha hb = absurd (omega arith)
+
+fit-bits : (b : Bool) (x y : ℕ) → x < 2 → y < 2 → eqb (bitAnd (bitAnd x y) (cond b 1 0)) 0 ≡ cond b (ltb (x + 2 * y) 3) true
+fit-bits true = two-bits (λ x y. eqb (bitAnd (bitAnd x y) 1) 0 ≡ ltb (x + 2 * y) 3) refl refl refl refl
+fit-bits false = two-bits (λ x y. eqb (bitAnd (bitAnd x y) 0) 0 ≡ true) refl refl refl refl
+
+zero-bits : (x y : ℕ) → x < 2 → y < 2 → eqb (bitOr x y) 0 ≡ eqb (x + 2 * y) 0
+zero-bits = two-bits (λ x y. eqb (bitOr x y) 0 ≡ eqb (x + 2 * y) 0) refl refl refl refl
+
+spare-bits : (b : Bool) (x y : ℕ) → x < 2 → y < 2 → eqb (bitXor (bitOr x y) (bitAnd (bitOr x y) (cond b 1 0))) 0 ≡ cond b true (eqb (x + 2 * y) 0)
+spare-bits true = two-bits (λ x y. eqb (bitXor (bitOr x y) (bitAnd (bitOr x y) 1)) 0 ≡ true) refl refl refl refl
+spare-bits false = two-bits (λ x y. eqb (bitXor (bitOr x y) (bitAnd (bitOr x y) 0)) 0 ≡ eqb (x + 2 * y) 0) refl refl refl refl
+
+-- what byte i of each plane shows of the trits
+module _ (m : ℕ) (v : List ℕ) (i x y : ℕ) (ex : x ≡ getD v i 0) (ey : y ≡ getD v (m + i) 0) where
+  shows-fit : (t z : ℕ) → z ≡ byteOf (inside t) i → Shows (fitBefore m t v) i (bitAnd (bitAnd x y) z)
+  shows-fit t z ez k h =
+      rw (trit-at m v i k h, ← ex, ← ey, and-digit, and-digit, inside-digit t i z k ez h) (fit-bits (ltb (8 * i + k) t) (digit x k) (digit y k) (digit-lt x k) (digit-lt y k))
+
+  shows-spare : (t z : ℕ) → z ≡ byteOf (inside t) i → Shows (zeroAfter m t v) i (bitXor (bitOr x y) (bitAnd (bitOr x y) z))
+  shows-spare t z ez k h =
+      rw (trit-at m v i k h, ← ex, ← ey, xor-digit, and-digit, or-digit, inside-digit t i z k ez h)
+      (spare-bits (ltb (8 * i + k) t) (digit x k) (digit y k) (digit-lt x k) (digit-lt y k))
+
+  pub looked : (t z : ℕ) → z ≡ byteOf (inside t) i → Looked m t v i (bitAnd (bitAnd x y) z) (bitXor (bitOr x y) (bitAnd (bitOr x y) z))
+  looked t z ez = record { fit = shows-fit t z ez; zero = shows-spare t z ez }
+
+  pub shows-zero : Shows (zeroAfter m 0 v) i (bitOr x y)
+  shows-zero k h =
+      rw (le-ltb (8 * i + k) 0 zero-le, trit-at m v i k h, ← ex, ← ey, or-digit) (zero-bits (digit x k) (digit y k) (digit-lt x k) (digit-lt y k))

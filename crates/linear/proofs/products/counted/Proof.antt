@@ -1,0 +1,26 @@
+-- `linear::products::counted` meets its contract. The set bits are the digits' sum.
+-- Assumes nothing.
+use mathlib.Core.Path.{ap₂, _∙_}
+use Prim.Native.Nat.{ℕ, _+_, _*_, _%_}
+use lib.Count.{ones}
+use borrow.Author.Needs.{needs}
+use Rattle.linear.proofs.Numbers.{ones-sum}
+use Rattle.linear.proofs.Planes.{count-sum}
+use Rattle.linear.proofs.products.counted.Statement.{statement}
+use Rattle.linear.proofs.products.counted.Tie as tie
+
+returns : tie.Need-returns
+returns c =
+    let a = c .before .before .before .args in
+    count-sum (ones (a .d .one)) (ones (a .d .two)) _ (c .product .ensures)
+    ∙ ap₂ (λ (x y : ℕ). (x + 2 * y) % 3) (ones-sum 64 (a .d .one) (search needs)) (ones-sum 64 (a .d .two) (search needs))
+
+pub counted-spec : {M : Type 1} → statement M
+counted-spec =
+    tie.close
+    (tie.spec
+    (λ c. search needs)
+    (λ c. search needs)
+    (λ c κs. search needs)
+    (λ c. search needs)
+    returns)

@@ -1,0 +1,42 @@
+-- `linear::words::window` meets its contract. A word and the byte after it, shifted together.
+-- Assumes nothing.
+use mathlib.Core.Path.{_≡_, ap, _∙_}
+use Prim.Native.Nat.{_+_, _*_}
+use native.Mathlib.Omega.{arith}
+use Rattle.linear.specs.Tables.{from}
+use Rattle.linear.specs.Bits.{bit}
+use Rattle.linear.proofs.Digits.{number-ext}
+use Rattle.linear.proofs.Strings.{bit-lt}
+use Rattle.linear.proofs.Numbers.{byte-part, window-is}
+use borrow.Author.Needs.{needs}
+use Rattle.linear.proofs.words.window.Statement.{statement}
+use Rattle.linear.proofs.words.window.Tie as tie
+
+returns : tie.Need-returns
+returns c =
+    let a = c .before .before .before .args in
+    let e : 8 * a .i ≡ 8 * a .i + a .q = omega arith in
+    rw e at (c .before .word-at .ensures)
+
+returns-2 : tie.Need-returns-2
+returns-2 c =
+    let w = c .before .before .before in
+    let a = w .before .before .args in
+    let b = bit (a .s .now) in
+    window-is (a .q) _ _ (from (8 * a .i) b) (omega arith) (λ j. bit-lt (a .s .now) (8 * a .i + j)) (w .word-at .ensures)
+    (byte-part (a .s .now) (a .i) 8 _ (c .wide .ensures ∙ c .before .byte-at .ensures) (omega (arith, c .before .byte-at .ok, c .wide .ensures)))
+    ∙ number-ext 64 (from (a .q) (from (8 * a .i) b)) (from (8 * a .i + a .q) b) (λ k _. ap b (omega arith))
+
+pub window-spec : {M : Type 1} → statement M
+window-spec =
+    tie.close
+    (tie.spec
+    (λ c κs. search needs)
+    returns
+    (λ c. search needs)
+    (λ c. search needs)
+    (λ c κs. search needs)
+    (λ c κs. search needs)
+    (λ c. search needs)
+    (λ c. search needs)
+    returns-2)

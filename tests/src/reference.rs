@@ -1,0 +1,22 @@
+//! Document 01 in Rust, sentence by sentence: plain rather than fast, and
+//! total: no function panics on any input.
+//!
+//! A byte past the end of a string counts as 0 in the functions of `bits` and
+//! `trits`; the calls above them refuse other lengths than stated.
+
+pub mod bits;
+pub mod dealer;
+pub mod evaluator;
+pub mod frame;
+pub mod join;
+pub mod matrix;
+pub mod numbers;
+pub mod pairing;
+pub mod program;
+pub mod trits;
+pub mod unit;
+
+#[cfg(test)]
+mod examples;
+#[cfg(test)]
+mod laws;

@@ -1,0 +1,177 @@
+//! "Tape and deal": the tape's parts, the deals, the dealer and the sampler.
+
+use super::bits::{add, multiply, part, STRING_BYTES};
+use super::frame::{frame_of, DEAL};
+use super::numbers::{Answer, SHORT_SOURCE, UNFIT_TRIT, WRONG_LENGTH};
+use super::trits::{pack_trits, subtract_trits, trits_fit};
+
+/// "A tape is 256 bytes"
+pub const TAPE_BYTES: usize = 256;
+/// "The first 192, for all that stands before r0"
+pub const COPIED_BYTES: usize = 192;
+/// "an inner trit vector 64 bytes"
+pub const VECTOR_BYTES: usize = 64;
+/// "332 bytes"
+pub const DEALT_BYTES: usize = 332;
+/// The trits of r0.
+pub const VECTOR_TRITS: usize = 256;
+
+/// "six bit strings K̃0, K̃1, x̃0, x̃1, w̃, z0, then the trit vector r0"
+#[derive(Clone, Debug, PartialEq, Eq)]
+pub struct Tape {
+    pub key_masks: [Vec<u8>; 2],
+    pub label_masks: [Vec<u8>; 2],
+    pub inner_mask: Vec<u8>,
+    pub z0: Vec<u8>,
+    pub r0: Vec<u8>,
+}
+
+impl Tape {
+    /// The parts of a tape, in the stated order.
+    pub fn read(tape: &[u8]) -> Tape {
+        let string = |i| part(tape, STRING_BYTES * i, STRING_BYTES);
+        Tape {
+            key_masks: [string(0), string(1)],
+            label_masks: [string(2), string(3)],
+            inner_mask: string(4),
+            z0: string(5),
+            r0: part(tape, COPIED_BYTES, VECTOR_BYTES),
+        }
+    }
+
+    /// The bytes of a tape, in the stated order.
+    pub fn bytes(&self) -> Vec<u8> {
+        let masks = [self.key_masks.concat(), self.label_masks.concat()].concat();
+        [&masks[..], &self.inner_mask, &self.z0, &self.r0].concat()
+    }
+
+    /// "K̃ × x̃" with "K̃ = K̃0 + K̃1 (as a circulant) and x̃ = x̃0 + x̃1"
+    pub fn mask_product(&self) -> Vec<u8> {
+        let key_mask = add(&self.key_masks[0], &self.key_masks[1]);
+        let label_mask = add(&self.label_masks[0], &self.label_masks[1]);
+        multiply(&key_mask, &label_mask)
+    }
+
+    /// "z1 = z0 + K̃ × x̃ + w̃ modulo 2"
+    pub fn z1(&self) -> Vec<u8> {
+        add(&add(&self.z0, &self.mask_product()), &self.inner_mask)
+    }
+
+    /// "r1 = w̃ − r0 modulo 3"
+    pub fn r1(&self) -> Vec<u8> {
+        subtract_trits(&self.inner_mask, &self.r0, STRING_BYTES)
+    }
+
+    /// "Unit i's deal is K̃i, x̃i, zi, ri."
+    pub fn deals(&self) -> [Deal; 2] {
+        let [key_mask0, key_mask1] = self.key_masks.clone();
+        let [label_mask0, label_mask1] = self.label_masks.clone();
+        let unit0 = Deal {
+            key_mask: key_mask0,
+            label_mask: label_mask0,
+            z: self.z0.clone(),
+            r: self.r0.clone(),
+        };
+        let unit1 =
+            Deal { key_mask: key_mask1, label_mask: label_mask1, z: self.z1(), r: self.r1() };
+        [unit0, unit1]
+    }
+}
+
+/// The deal of one unit.
+#[derive(Clone, Debug, PartialEq, Eq)]
+pub struct Deal {
+    pub key_mask: Vec<u8>,
+    pub label_mask: Vec<u8>,
+    pub z: Vec<u8>,
+    pub r: Vec<u8>,
+}
+
+impl Deal {
+    /// The deal in a deal frame's body.
+    pub fn read(body: &[u8]) -> Deal {
+        let string = |i| part(body, STRING_BYTES * i, STRING_BYTES);
+        Deal {
+            key_mask: string(0),
+            label_mask: string(1),
+            z: string(2),
+            r: part(body, 3 * STRING_BYTES, VECTOR_BYTES),
+        }
+    }
+
+    /// The body of a deal frame.
+    pub fn bytes(&self) -> Vec<u8> {
+        [&self.key_mask[..], &self.label_mask, &self.z, &self.r].concat()
+    }
+
+    /// The deal part of a state that has none: zeros.
+    pub fn none() -> Deal {
+        Deal::read(&[])
+    }
+}
+
+/// "A tape is accepted when it has the stated length and no trit of its r0 has
+/// both bits set."
+pub fn tape_accepted(tape: &[u8]) -> bool {
+    tape.len() == TAPE_BYTES && tape_fits(tape)
+}
+
+/// Whether no trit of the tape's r0 has both bits set.
+pub fn tape_fits(tape: &[u8]) -> bool {
+    trits_fit(&part(tape, COPIED_BYTES, VECTOR_BYTES), VECTOR_TRITS)
+}
+
+/// "writes unit 0's deal frame, then unit 1's, 332 bytes"
+fn deal_frames(session: u32, tape: &[u8]) -> Vec<u8> {
+    let [deal0, deal1] = Tape::read(tape).deals();
+    let frame0 = frame_of(DEAL, 0, session, &deal0.bytes());
+    let frame1 = frame_of(DEAL, 1, session, &deal1.bytes());
+    [frame0, frame1].concat()
+}
+
+/// "The dealer takes a session and a tape".
+pub fn deal(session: u32, tape: &[u8], room: usize) -> Answer {
+    let right = tape.len() == TAPE_BYTES;
+    let conditions =
+        [(WRONG_LENGTH, !right || room < DEALT_BYTES), (UNFIT_TRIT, right && !tape_fits(tape))];
+    Answer::unless(&conditions, || deal_frames(session, tape))
+}
+
+/// "It also deals from source bytes, the tape being what the sampler makes of
+/// them, and then reports the sampler's count."
+pub fn deal_source(session: u32, source: &[u8], room: usize) -> Answer {
+    if room < DEALT_BYTES {
+        return Answer::refused(WRONG_LENGTH);
+    }
+    let sampled = sample(source, TAPE_BYTES);
+    match sampled.number {
+        0 => Answer { count: sampled.count, ..deal(session, &sampled.bytes, room) },
+        number => Answer::refused(number),
+    }
+}
+
+/// "Each later byte gives four pairs of bits, lowest first; pairs of value 3
+/// are skipped": the trits of a source, each with the number of its byte.
+fn source_trits(source: &[u8]) -> Vec<(u8, usize)> {
+    let later = source.iter().enumerate().skip(COPIED_BYTES);
+    let pairs = later.flat_map(|(place, byte)| (0..4).map(move |k| (byte >> (2 * k) & 3, place)));
+    pairs.filter(|pair| pair.0 != 3).take(VECTOR_TRITS).collect()
+}
+
+/// "The sampler makes a tape from source bytes. The first 192 are copied", the
+/// others "are the trits of r0 in turn. It reports the bytes used, the byte of
+/// the last trit included."
+pub fn sample(source: &[u8], room: usize) -> Answer {
+    let trits = source_trits(source);
+    let short = source.len() < COPIED_BYTES || trits.len() < VECTOR_TRITS;
+    let conditions = [(WRONG_LENGTH, room < TAPE_BYTES), (SHORT_SOURCE, short)];
+    let trit_at = |j: usize| trits.get(j).map_or(0, |pair| pair.0);
+    let mut answer = Answer::unless(&conditions, || {
+        let copied = part(source, 0, COPIED_BYTES);
+        [copied, pack_trits(STRING_BYTES, trit_at)].concat()
+    });
+    if answer.number == 0 {
+        answer.count = trits.last().map_or(0, |pair| pair.1 as u64 + 1);
+    }
+    answer
+}

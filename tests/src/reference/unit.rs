@@ -1,0 +1,196 @@
+//! "The unit": state, beginning and step.
+
+use super::bits::{add, multiply, part, STRING_BYTES};
+use super::dealer::{Deal, VECTOR_TRITS};
+use super::evaluator::code_of;
+use super::frame::{frame_of, read_frame, Frame, DEAL, MASK, OPEN, SHARE};
+use super::matrix::file_conditions;
+use super::numbers::{
+    lowest, Condition, DONE, NOT_WAITED_FOR, NO_SIDE, OTHER_SESSION, OTHER_SIDE, UNFIT_TRIT,
+    WRONG_LENGTH,
+};
+use super::trits::{inner_share, trits_fit};
+
+/// "an output slice is shorter than what may be written (step: 70)"
+pub const STEP_ROOM: usize = 70;
+
+/// What a unit waits for, or why it waits for nothing.
+#[derive(Clone, Copy, Debug, PartialEq, Eq)]
+pub enum Stage {
+    Idle,
+    WaitsForDeal,
+    WaitsForOpen,
+    WaitsForMask,
+    Done,
+}
+
+/// "The state holds side, session, stage, the two halves, the deal and what
+/// later steps need": its own mask. What is not yet known is zero.
+#[derive(Clone, Debug, PartialEq, Eq)]
+pub struct State {
+    pub side: u8,
+    pub session: u32,
+    pub stage: Stage,
+    pub key_half: Vec<u8>,
+    pub label_half: Vec<u8>,
+    pub deal: Deal,
+    pub mask: Vec<u8>,
+}
+
+/// The result of a step, the bytes written and the next state.
+#[derive(Clone, Debug, PartialEq, Eq)]
+pub struct Step {
+    pub number: u32,
+    pub written: Vec<u8>,
+    pub next: State,
+}
+
+impl State {
+    /// A state with "zeros for all else" than these.
+    pub fn bare(side: u8, session: u32, stage: Stage) -> State {
+        State {
+            side,
+            session,
+            stage,
+            key_half: vec![0; STRING_BYTES],
+            label_half: vec![0; STRING_BYTES],
+            deal: Deal::none(),
+            mask: vec![0; STRING_BYTES],
+        }
+    }
+
+    /// "an idle state, side 0 and session 0 with zeros for all else but the
+    /// stage"
+    pub fn idle() -> State {
+        State::bare(0, 0, Stage::Idle)
+    }
+
+    /// The kind waited for; "Done and idle wait for no kind".
+    pub fn waits_for(&self) -> Option<u8> {
+        match self.stage {
+            Stage::WaitsForDeal => Some(DEAL),
+            Stage::WaitsForOpen => Some(OPEN),
+            Stage::WaitsForMask => Some(MASK),
+            Stage::Idle | Stage::Done => None,
+        }
+    }
+
+    /// "key half + K̃i, label half + x̃i, modulo 2"
+    fn open_body(&self) -> Vec<u8> {
+        let key = add(&self.key_half, &self.deal.key_mask);
+        let label = add(&self.label_half, &self.deal.label_mask);
+        [key, label].concat()
+    }
+
+    /// "ŵi = K̂ × x̃i + K̃i × x̂ + zi modulo 2; side 0 also adds K̂ × x̂", with "K̂
+    /// and x̂ the sums modulo 2 of both open bodies".
+    fn mask_body(&self, other_open: &[u8]) -> Vec<u8> {
+        let own_open = self.open_body();
+        let summed = |start| {
+            let own = part(&own_open, start, STRING_BYTES);
+            add(&own, &part(other_open, start, STRING_BYTES))
+        };
+        let (key, label) = (summed(0), summed(STRING_BYTES));
+        let cross_label = multiply(&key, &self.deal.label_mask);
+        let cross_key = multiply(&self.deal.key_mask, &label);
+        let mask = add(&add(&cross_label, &cross_key), &self.deal.z);
+        match self.side {
+            0 => add(&mask, &multiply(&key, &label)),
+            _ => mask,
+        }
+    }
+
+    /// "Its code share is B times that", the inner share for "ŵ = ŵ0 + ŵ1".
+    fn share_body(&self, other_mask: &[u8], file: &[u8]) -> Vec<u8> {
+        let summed = add(&self.mask, other_mask);
+        let inner = inner_share(self.side, &summed, &self.deal.r, STRING_BYTES);
+        code_of(&inner, file)
+    }
+}
+
+/// The side of the other unit.
+pub fn other_side(side: u8) -> u8 {
+    match side {
+        0 => 1,
+        _ => 0,
+    }
+}
+
+/// "The beginning takes side, session, key half and label half"; "A refused
+/// beginning gives an idle state".
+pub fn begin(side: u32, session: u32, key_half: &[u8], label_half: &[u8]) -> (u32, State) {
+    let wrong = key_half.len() != STRING_BYTES || label_half.len() != STRING_BYTES;
+    let number = lowest(&[(WRONG_LENGTH, wrong), (NO_SIDE, side > 1)]);
+    if number != DONE {
+        return (number, State::idle());
+    }
+    let begun = State {
+        key_half: key_half.to_vec(),
+        label_half: label_half.to_vec(),
+        ..State::bare(side as u8, session, Stage::WaitsForDeal)
+    };
+    (DONE, begun)
+}
+
+/// 5, 6, 7 and a deal's 10, of a frame that was read.
+fn frame_conditions(state: &State, frame: &Frame) -> [Condition; 4] {
+    let side = match frame.kind {
+        DEAL => state.side,
+        _ => other_side(state.side),
+    };
+    let unfit = frame.kind == DEAL && !trits_fit(&Deal::read(&frame.body).r, VECTOR_TRITS);
+    [
+        (OTHER_SESSION, frame.session != state.session),
+        (OTHER_SIDE, frame.side != side),
+        (NOT_WAITED_FOR, state.waits_for() != Some(frame.kind)),
+        (UNFIT_TRIT, unfit),
+    ]
+}
+
+/// The lowest number of a step; "A step reads the matrix file only if the
+/// frame's first byte is 3."
+pub fn step_number(state: &State, frame: &[u8], file: &[u8], room: usize) -> u32 {
+    let mut conditions = vec![(WRONG_LENGTH, room < STEP_ROOM)];
+    if frame.first() == Some(&MASK) {
+        conditions.extend(file_conditions(file));
+    }
+    match read_frame(frame, &[DEAL, OPEN, MASK]) {
+        Ok(read) => conditions.extend(frame_conditions(state, &read)),
+        Err(number) => conditions.push((number, true)),
+    }
+    lowest(&conditions)
+}
+
+/// "Each step takes the unit's state and one frame and gives back the next
+/// state."
+pub fn step(state: &State, frame: &[u8], file: &[u8], room: usize) -> Step {
+    let number = step_number(state, frame, file, room);
+    match read_frame(frame, &[DEAL, OPEN, MASK]) {
+        Ok(read) if number == DONE => accepted(state, &read, file),
+        _ => Step { number, written: Vec::new(), next: state.clone() },
+    }
+}
+
+/// "it takes a deal and writes its open frame. It then takes the other's open
+/// frame and writes its mask frame. It then takes the other's mask frame, reads
+/// the matrix file, writes its share frame and is done".
+fn accepted(state: &State, frame: &Frame, file: &[u8]) -> Step {
+    let mut next = state.clone();
+    let (kind, body) = match frame.kind {
+        DEAL => {
+            next.deal = Deal::read(&frame.body);
+            next.stage = Stage::WaitsForOpen;
+            (OPEN, next.open_body())
+        }
+        OPEN => {
+            next.mask = state.mask_body(&frame.body);
+            next.stage = Stage::WaitsForMask;
+            (MASK, next.mask.clone())
+        }
+        _ => {
+            next = State::bare(state.side, state.session, Stage::Done);
+            (SHARE, state.share_body(&frame.body, file))
+        }
+    };
+    Step { number: DONE, written: frame_of(kind, state.side, state.session, &body), next }
+}

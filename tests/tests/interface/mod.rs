@@ -1,0 +1,217 @@
+//! The C interface of the static library `protocol` as safe Rust functions on
+//! slices, and the comparison of a call with the reference's answer.
+
+// Each test binary uses its own part of the interface.
+#![allow(dead_code)]
+
+#[cfg(missing_protocol)]
+compile_error!(
+    "libprotocol.a is not in target/staticlib (or in the folder that SERVICE_PAIR_LIB names): \
+     run `rt staticlib protocol` in the repository's root to make it."
+);
+
+use service_pair_tests::guarded::compare_bytes;
+use service_pair_tests::random::{seed, Random};
+use service_pair_tests::reference::numbers::Answer;
+
+mod linked {
+    /// A lent slice that is read, as the C interface passes it.
+    type In = *const u8;
+    /// A lent slice that is written.
+    type Out = *mut u8;
+    type Length = usize;
+
+    #[link(name = "protocol", kind = "static")]
+    extern "C" {
+        pub fn pair_matrix_check(file: In, n: Length) -> u32;
+        pub fn pair_matrix_write(rows: In, n: Length, out: Out, room: Length) -> u32;
+        pub fn pair_matrix_read(file: In, n: Length, out: Out, room: Length) -> u32;
+        pub fn pair_evaluate(
+            key: In,
+            key_length: Length,
+            label: In,
+            label_length: Length,
+            file: In,
+            file_length: Length,
+            out: Out,
+            room: Length,
+        ) -> u32;
+        pub fn pair_sample(
+            source: In,
+            source_length: Length,
+            out: Out,
+            room: Length,
+            used: *mut u64,
+        ) -> u32;
+        pub fn pair_deal(session: u32, tape: In, n: Length, out: Out, room: Length) -> u32;
+        pub fn pair_deal_source(
+            session: u32,
+            source: In,
+            source_length: Length,
+            out: Out,
+            room: Length,
+            used: *mut u64,
+        ) -> u32;
+        pub fn pair_begin(
+            side: u32,
+            session: u32,
+            key_half: In,
+            key_length: Length,
+            label_half: In,
+            label_length: Length,
+            state: Out,
+            state_length: Length,
+        ) -> u32;
+        pub fn pair_step(
+            state: Out,
+            state_length: Length,
+            frame: In,
+            frame_length: Length,
+            file: In,
+            file_length: Length,
+            out: Out,
+            room: Length,
+            written: *mut u64,
+        ) -> u32;
+        pub fn pair_join(
+            share0: In,
+            length0: Length,
+            share1: In,
+            length1: Length,
+            out: Out,
+            room: Length,
+        ) -> u32;
+        pub fn pair_run(input: In, n: Length, out: Out, room: Length) -> u32;
+    }
+}
+
+// Each wrapper below is sound because every slice goes with its own length, and
+// slices and counts that are written are lent alone.
+
+pub fn matrix_check(file: &[u8]) -> u32 {
+    unsafe { linked::pair_matrix_check(file.as_ptr(), file.len()) }
+}
+
+pub fn matrix_write(rows: &[u8], out: &mut [u8]) -> u32 {
+    let (output, room) = (out.as_mut_ptr(), out.len());
+    unsafe { linked::pair_matrix_write(rows.as_ptr(), rows.len(), output, room) }
+}
+
+pub fn matrix_read(file: &[u8], out: &mut [u8]) -> u32 {
+    let (output, room) = (out.as_mut_ptr(), out.len());
+    unsafe { linked::pair_matrix_read(file.as_ptr(), file.len(), output, room) }
+}
+
+pub fn evaluate(key: &[u8], label: &[u8], file: &[u8], out: &mut [u8]) -> u32 {
+    unsafe {
+        linked::pair_evaluate(
+            key.as_ptr(),
+            key.len(),
+            label.as_ptr(),
+            label.len(),
+            file.as_ptr(),
+            file.len(),
+            out.as_mut_ptr(),
+            out.len(),
+        )
+    }
+}
+
+pub fn sample(source: &[u8], out: &mut [u8], used: &mut u64) -> u32 {
+    let (output, room) = (out.as_mut_ptr(), out.len());
+    unsafe { linked::pair_sample(source.as_ptr(), source.len(), output, room, used) }
+}
+
+pub fn deal(session: u32, tape: &[u8], out: &mut [u8]) -> u32 {
+    let (output, room) = (out.as_mut_ptr(), out.len());
+    unsafe { linked::pair_deal(session, tape.as_ptr(), tape.len(), output, room) }
+}
+
+pub fn deal_source(session: u32, source: &[u8], out: &mut [u8], used: &mut u64) -> u32 {
+    let (output, room) = (out.as_mut_ptr(), out.len());
+    unsafe { linked::pair_deal_source(session, source.as_ptr(), source.len(), output, room, used) }
+}
+
+pub fn begin(side: u32, session: u32, key: &[u8], label: &[u8], state: &mut [u8]) -> u32 {
+    unsafe {
+        linked::pair_begin(
+            side,
+            session,
+            key.as_ptr(),
+            key.len(),
+            label.as_ptr(),
+            label.len(),
+            state.as_mut_ptr(),
+            state.len(),
+        )
+    }
+}
+
+pub fn step(state: &mut [u8], frame: &[u8], file: &[u8], out: &mut [u8], written: &mut u64) -> u32 {
+    unsafe {
+        linked::pair_step(
+            state.as_mut_ptr(),
+            state.len(),
+            frame.as_ptr(),
+            frame.len(),
+            file.as_ptr(),
+            file.len(),
+            out.as_mut_ptr(),
+            out.len(),
+            written,
+        )
+    }
+}
+
+pub fn join(share0: &[u8], share1: &[u8], out: &mut [u8]) -> u32 {
+    let (first, second) = (share0.as_ptr(), share1.as_ptr());
+    let (output, room) = (out.as_mut_ptr(), out.len());
+    unsafe { linked::pair_join(first, share0.len(), second, share1.len(), output, room) }
+}
+
+pub fn run(input: &[u8], out: &mut [u8]) -> u32 {
+    let (output, room) = (out.as_mut_ptr(), out.len());
+    unsafe { linked::pair_run(input.as_ptr(), input.len(), output, room) }
+}
+
+/// Calls with every slice between guards and an output slice of `room` random
+/// bytes; number and all bytes must be the reference's.
+pub fn compare<const COUNT: usize>(
+    random: &mut Random,
+    name: &str,
+    inputs: [&[u8]; COUNT],
+    room: usize,
+    expected: &Answer,
+    call: impl FnOnce([&[u8]; COUNT], &mut [u8]) -> u32,
+) {
+    compare_counted(random, name, inputs, room, expected, |inputs, out, count| {
+        *count = 0;
+        call(inputs, out)
+    });
+}
+
+/// `compare` of a call that also reports a count, which held other bytes before.
+pub fn compare_counted<const COUNT: usize>(
+    random: &mut Random,
+    name: &str,
+    inputs: [&[u8]; COUNT],
+    room: usize,
+    expected: &Answer,
+    call: impl FnOnce([&[u8]; COUNT], &mut [u8], &mut u64) -> u32,
+) {
+    let before = random.bytes(room);
+    let mut count = random.word();
+    let bytes = &expected.bytes;
+    let number = compare_bytes(random, name, inputs, &before, bytes, |inputs, out| {
+        call(inputs, out, &mut count)
+    });
+    let found = (number, count);
+    let answer = (expected.number, expected.count);
+    let lengths = inputs.map(<[u8]>::len);
+    assert!(
+        found == answer,
+        "{name}: number and count are {found:?}, expected {answer:?}, SEED={}\n\
+         output slice of {room} bytes, inputs of {lengths:?} bytes: {inputs:?}",
+        seed()
+    );
+}

@@ -1,0 +1,161 @@
+//! The program over standard input: its sample, every number that it can give,
+//! combinations where the lowest wins, and input of any length.
+
+use service_pair_tests::random::{report, seed, Random};
+use service_pair_tests::reference::dealer::COPIED_BYTES;
+use service_pair_tests::reference::matrix::file_of_rows;
+use service_pair_tests::reference::program::{program, Inputs, INPUT_BYTES};
+use service_pair_tests::reference::trits::pack_trits;
+use service_pair_tests::samples::{
+    chosen_faults, damage_file, fit_inputs, set_both_bits, FAULT_CHOICES,
+};
+use std::env;
+use std::io::{Read, Write};
+use std::path::PathBuf;
+use std::process::{Child, ChildStdin, Command, Stdio};
+use std::thread;
+use std::time::Duration;
+
+/// `SERVICE_PAIR_PROGRAM`, or where `rt check` links the program.
+fn program_path() -> PathBuf {
+    let path = match env::var_os("SERVICE_PAIR_PROGRAM") {
+        Some(path) => PathBuf::from(path),
+        None => PathBuf::from(env!("CARGO_MANIFEST_DIR")).join("../target/bin/service_pair"),
+    };
+    assert!(
+        path.is_file(),
+        "target/bin/service_pair (or the file that SERVICE_PAIR_PROGRAM names) is missing: run \
+         `rt check service_pair` in the repository's root to make it."
+    );
+    path
+}
+
+fn start() -> Child {
+    let mut command = Command::new(program_path());
+    command.stdin(Stdio::piped()).stdout(Stdio::piped());
+    command.spawn().expect("the program starts")
+}
+
+/// Runs the program while another thread gives it input; what it prints.
+fn output_of(feed: impl FnOnce(ChildStdin) + Send + 'static) -> String {
+    let mut child = start();
+    let stdin = child.stdin.take().expect("standard input is piped");
+    let feeder = thread::spawn(move || feed(stdin));
+    let mut printed = Vec::new();
+    let mut stdout = child.stdout.take().expect("standard output is piped");
+    stdout.read_to_end(&mut printed).expect("the program prints");
+    child.wait().expect("the program ends");
+    feeder.join().expect("the input was given");
+    String::from_utf8(printed).expect("the program prints text")
+}
+
+/// Gives the whole input at once. A program that has read enough may close its
+/// input early.
+fn whole(input: Vec<u8>) -> impl FnOnce(ChildStdin) {
+    move |mut stdin| {
+        let _ = stdin.write_all(&input);
+    }
+}
+
+fn compare(input: &[u8]) -> String {
+    let printed = output_of(whole(input.to_vec()));
+    assert_eq!(printed, program(input), "SEED={}", seed());
+    printed
+}
+
+#[test]
+fn the_sample_is_printed() {
+    let row = |i: usize| pack_trits(32, |j| u8::from(i == j));
+    let rows: Vec<u8> = (0..81).flat_map(row).collect();
+    let first = |byte: u8| [vec![byte], vec![0; 31]].concat();
+    let inputs = Inputs {
+        key_halves: [first(0x01), first(0)],
+        label_halves: [first(0x05), first(0)],
+        tape: vec![0; 256],
+        file: file_of_rows(&rows),
+    };
+    let expected = format!("result 0\n101{}\n", "0".repeat(78));
+    assert_eq!(compare(&inputs.bytes()), expected);
+}
+
+#[test]
+fn runs_print_their_digits() {
+    let mut random = Random::for_test("program runs");
+    let count = 60;
+    for _ in 0..count {
+        let printed = compare(&fit_inputs(&mut random).bytes());
+        assert_eq!(printed.len(), "result 0\n".len() + 82);
+    }
+    report("program: fit inputs", count);
+}
+
+#[test]
+fn each_fault_and_the_lowest_of_several() {
+    let mut random = Random::for_test("program faults");
+    let mut count = 0;
+    // Every choice of the file's faults, with a fit tape and an unfit one.
+    for choice in 0..FAULT_CHOICES {
+        for unfit_tape in [false, true] {
+            let mut inputs = fit_inputs(&mut random);
+            damage_file(&mut random, &mut inputs.file, &chosen_faults(choice));
+            if unfit_tape {
+                set_both_bits(&mut random, &mut inputs.tape, COPIED_BYTES);
+            }
+            compare(&inputs.bytes());
+            count += 1;
+        }
+    }
+    report("program: inputs with faults", count);
+}
+
+#[test]
+fn other_lengths_print_result_1() {
+    let mut random = Random::for_test("program lengths");
+    let long = [fit_inputs(&mut random).bytes(), random.bytes(200_000)].concat();
+    let near = INPUT_BYTES - 3..INPUT_BYTES + 4;
+    let lengths: Vec<usize> =
+        (0..5).chain(near).chain([32, 128, 384, 6_144, 13_056, 65_536, 200_000]).collect();
+    for &length in &lengths {
+        let expected = if length == INPUT_BYTES { "result 0\n" } else { "result 1\n" };
+        assert!(compare(&long[..length]).starts_with(expected), "length {length}");
+    }
+    report("program: lengths", lengths.len());
+}
+
+/// Input that comes in pieces, as from a pipe or a terminal.
+#[test]
+fn input_may_come_in_pieces() {
+    let mut random = Random::for_test("program pieces");
+    for _ in 0..5 {
+        let input = fit_inputs(&mut random).bytes();
+        let expected = program(&input);
+        let mut cuts: Vec<usize> = (0..6).map(|_| random.below(input.len())).collect();
+        cuts.extend([0, input.len()]);
+        cuts.sort_unstable();
+        let printed = output_of(move |mut stdin| {
+            for cut in cuts.windows(2) {
+                stdin.write_all(&input[cut[0]..cut[1]]).expect("the program reads on");
+                stdin.flush().expect("the piece is given");
+                thread::sleep(Duration::from_millis(3));
+            }
+        });
+        assert_eq!(printed, expected, "SEED={}", seed());
+    }
+    report("program: inputs in pieces", 5);
+}
+
+/// Endless input: it stops reading and says 1, though the input goes on.
+#[test]
+fn endless_input_prints_result_1() {
+    const FAR: usize = 1 << 26;
+    let printed = output_of(|mut stdin| {
+        let piece = [7; 4_096];
+        let mut given = 0;
+        while stdin.write_all(&piece).is_ok() {
+            given += piece.len();
+            assert!(given < FAR, "the program reads on without end");
+        }
+    });
+    assert_eq!(printed, "result 1\n");
+    report("program: endless inputs", 1);
+}

@@ -1,0 +1,13 @@
+//! Compares the C interface of the static library `protocol` with the
+//! reference: each call alone, whole runs, any states, and paired runs.
+
+mod calls;
+mod frames;
+#[path = "../interface/mod.rs"]
+mod interface;
+mod join;
+mod runs;
+mod sampler;
+mod states;
+mod unit;
+mod views;

@@ -1,0 +1,154 @@
+//! A run of two units in the library beside the same run in the reference;
+//! every step is compared whole.
+
+use crate::frames::{strange_file, strange_frame, strange_room};
+use crate::interface;
+use service_pair_tests::guarded::{compare_bytes, Guarded};
+use service_pair_tests::random::{seed, Random};
+use service_pair_tests::reference::frame::DEAL_BYTES;
+use service_pair_tests::reference::numbers::DONE;
+use service_pair_tests::reference::program::Inputs;
+use service_pair_tests::reference::unit::{self, Stage, State};
+use service_pair_tests::state_layout::{encode, STATE_BYTES};
+
+/// What one step is lent: frame, file and the length of the output slice.
+#[derive(Clone, Debug, PartialEq, Eq)]
+pub struct Lent {
+    pub frame: Vec<u8>,
+    pub file: Vec<u8>,
+    pub room: usize,
+}
+
+/// What a step adds to a unit's view besides what it was lent.
+#[derive(Clone, Debug, PartialEq, Eq)]
+pub struct Outcome {
+    pub number: u32,
+    pub written: Vec<u8>,
+    pub state: Vec<u8>,
+}
+
+/// A unit: the library's state slice and the reference's state.
+#[derive(Clone, Debug)]
+pub struct Unit {
+    pub bytes: Vec<u8>,
+    pub state: State,
+}
+
+impl Unit {
+    /// An accepted beginning of both.
+    pub fn begin(side: usize, session: u32, inputs: &Inputs) -> Unit {
+        let (key, label) = (&inputs.key_halves[side], &inputs.label_halves[side]);
+        let mut bytes = vec![0xa5; STATE_BYTES];
+        let number = interface::begin(side as u32, session, key, label, &mut bytes);
+        let (expected, state) = unit::begin(side as u32, session, key, label);
+        assert_eq!((number, expected), (DONE, DONE), "pair_begin, SEED={}", seed());
+        assert_eq!(bytes, encode(&state), "the begun state, SEED={}", seed());
+        Unit { bytes, state }
+    }
+
+    /// One step of both. The number, the count, the output slice, the state
+    /// slice and what was only read are compared, with the guards around them.
+    pub fn step(&mut self, random: &mut Random, lent: &Lent) -> Outcome {
+        let expected = unit::step(&self.state, &lent.frame, &lent.file, lent.room);
+        let mut slice = Guarded::lend(random, &self.bytes);
+        // A refusal leaves the very bytes, also where two encodings were alike.
+        let slice_after = match expected.number {
+            DONE => slice.after(&encode(&expected.next)),
+            _ => slice.clone(),
+        };
+        let (room, mut count) = (random.bytes(lent.room), random.word());
+        let inputs = [&lent.frame[..], &lent.file];
+        let bytes = &expected.written;
+        let number = compare_bytes(random, "pair_step", inputs, &room, bytes, |inputs, out| {
+            interface::step(slice.slice_mut(), inputs[0], inputs[1], out, &mut count)
+        });
+        let context = || format!("SEED={}\n{:?}\n{:?}", seed(), self.state, lent.frame);
+        assert_eq!(number, expected.number, "pair_step's number, {}", context());
+        assert_eq!(count, bytes.len() as u64, "pair_step's count, {}", context());
+        assert!(slice == slice_after, "pair_step's state differs, {}", context());
+        self.bytes = slice.slice().to_vec();
+        self.state = expected.next;
+        Outcome { number, written: expected.written, state: self.bytes.clone() }
+    }
+}
+
+/// A run: its inputs, both units, and every frame written in it.
+#[derive(Clone, Debug)]
+pub struct Run {
+    pub inputs: Inputs,
+    pub session: u32,
+    pub deals: [Vec<u8>; 2],
+    pub units: [Unit; 2],
+    pub sent: [Vec<Vec<u8>>; 2],
+}
+
+impl Run {
+    /// "A run starts with the deal of its session and tape and with two units".
+    pub fn start(inputs: Inputs, session: u32) -> Run {
+        let mut dealt = vec![0; 2 * DEAL_BYTES];
+        let number = interface::deal(session, &inputs.tape, &mut dealt);
+        assert_eq!(number, DONE, "pair_deal of an accepted tape, SEED={}", seed());
+        let deals = [dealt[..DEAL_BYTES].to_vec(), dealt[DEAL_BYTES..].to_vec()];
+        let units = [0, 1].map(|side| Unit::begin(side, session, &inputs));
+        Run { inputs, session, deals, units, sent: [Vec::new(), Vec::new()] }
+    }
+
+    /// "the frame is the one that the unit waits for, the dealer's for it or the
+    /// other unit's open or mask frame", if it was written already.
+    fn awaited(&self, side: usize) -> Option<&Vec<u8>> {
+        match self.units[side].state.stage {
+            Stage::WaitsForDeal => Some(&self.deals[side]),
+            Stage::WaitsForOpen => self.sent[1 - side].first(),
+            Stage::WaitsForMask => self.sent[1 - side].get(1),
+            Stage::Idle | Stage::Done => None,
+        }
+    }
+
+    /// An entry as sent, if the unit's frame was written already. The file is
+    /// the run's where the step reads it, and any otherwise.
+    pub fn as_sent(&self, random: &mut Random, side: usize) -> Option<Lent> {
+        let frame = self.awaited(side)?.clone();
+        let file = match self.units[side].state.stage {
+            Stage::WaitsForMask => self.inputs.file.clone(),
+            _ => strange_file(random, &self.inputs.file),
+        };
+        Some(Lent { frame, file, room: 70 + random.below(40) })
+    }
+
+    /// Anything: the frame waited for or another of this run, whole or not, or
+    /// one of no run; fit files or not.
+    pub fn anything(&self, random: &mut Random, side: usize) -> Lent {
+        let known = [&self.deals[..], &self.sent[0], &self.sent[1]].concat();
+        let frame = match self.awaited(side) {
+            // The right frame, so that it is the file or the slice that is not.
+            Some(frame) if random.once_in(4) => frame.clone(),
+            _ => strange_frame(random, &known, self.session),
+        };
+        let file = strange_file(random, &self.inputs.file);
+        Lent { frame, file, room: strange_room(random) }
+    }
+
+    /// Whether a frame is the one that the unit waits for.
+    pub fn awaits(&self, side: usize, frame: &[u8]) -> bool {
+        self.awaited(side).is_some_and(|awaited| awaited == frame)
+    }
+
+    /// Whether the reference refuses these for a unit.
+    pub fn refuses(&self, side: usize, lent: &Lent) -> bool {
+        let state = &self.units[side].state;
+        unit::step_number(state, &lent.frame, &lent.file, lent.room) != DONE
+    }
+
+    /// One entry of the list.
+    pub fn step(&mut self, random: &mut Random, side: usize, lent: &Lent) -> Outcome {
+        let outcome = self.units[side].step(random, lent);
+        if outcome.number == DONE {
+            self.sent[side].push(outcome.written.clone());
+        }
+        outcome
+    }
+
+    pub fn both_done(&self) -> bool {
+        self.units.iter().all(|unit| unit.state.stage == Stage::Done)
+    }
+}
