@@ -8,8 +8,8 @@ ghost use Rattle.linear.specs.Tables.{sum, from, below};
 ghost use Rattle.linear.specs.Bits.{digit, byteOf};
 ghost use Rattle.linear.specs.Products.{bitRow, circulant, circulantProduct, rowProduct, rowDigit, matrixProduct};
 ghost use Rattle.linear.specs.Planes.{tritOf, Eight, planeTerm};
+use crate::trits::Planes;
 use crate::words;
-use crate::words::Planes;
 
 // Row 8p + q of the circulant matrix times `x`, modulo 2: the columns from 8p + q on, and those before.
 fn row_bit(key: &[u8], x: &[u8], n: usize, p: usize, q: usize) -> u8

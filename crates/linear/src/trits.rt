@@ -10,7 +10,12 @@ ghost use Rattle.linear.specs.Bits.{byteOf};
 ghost use Rattle.linear.specs.Trits.{sumTrit, addTrits, differenceTrit, subtractTrits, innerTrit, innerShare, fitTrits, zeroTrits};
 ghost use Rattle.linear.specs.Planes.{plane, Eight, inside, Looked, Gathered};
 use crate::bits::byte_at;
-use crate::words::Planes;
+
+// A byte of each plane: eight trits.
+pub struct Planes {
+    pub low: u8,
+    pub high: u8,
+}
 
 // The low plane of the sum modulo 3 of trits of planes `x`, `u` and of planes `y`, `w`; the high plane, of the planes in the other order.
 fn plane_sum(x: u8, u: u8, y: u8, w: u8) -> u8

@@ -1,4 +1,4 @@
-// What the modules share: eight trits, parts of slices, and words of 64 bits of them.
+// Parts of slices, and words of 64 bits of them.
 ghost use mathlib.Core.Path.{_≡_};
 ghost use Prim.Native.Nat.{_+_, _*_, _%_, _^_, _<_, _≤_};
 ghost use lib.ListN.{length, take, drop};
@@ -6,12 +6,6 @@ ghost use Rattle.linear.specs.Tables.{sum, from};
 ghost use Rattle.linear.specs.Bits.{number, bit};
 ghost use Rattle.linear.specs.Planes.{shiftTerm};
 use crate::bits::byte_at;
-
-// A byte of each plane: eight trits.
-pub struct Planes {
-    pub low: u8,
-    pub high: u8,
-}
 
 // The first `n` bytes of `s`.
 pub fn front(s: &[u8], n: usize) -> &[u8]

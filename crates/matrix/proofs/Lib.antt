@@ -1,0 +1,9 @@
+-- The laws that proofs cite, here and in the crates above.
+pub mod Numbers
+pub mod Tests
+pub mod Parts
+pub mod Blocks
+pub mod Rows
+pub mod RoundTrip
+pub mod Outputs
+pub mod Examples

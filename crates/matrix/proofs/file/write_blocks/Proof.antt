@@ -1,0 +1,67 @@
+-- `matrix::file::write_blocks` meets its contract. The invariant of its loop: the blocks before b are written.
+-- Assumes nothing.
+use mathlib.Core.Path.{_≡_, ap, _∙_}
+use Prim.Native.Nat.{_+_, _-_, _*_, _≤_}
+use native.Mathlib.Omega.{arith}
+use lib.ListN.{length}
+use Rattle.linear.specs.Tables.{tabulate}
+use Rattle.linear.proofs.Tables.{length-tabulate}
+use Rattle.matrix.specs.File.{matrixB, fileByte, fileFrom, fileOf}
+use Rattle.matrix.proofs.Parts.{Written, written-none, written-table}
+use Rattle.matrix.proofs.Blocks.{length-block, block-part}
+use Rattle.matrix.proofs.file.write_blocks.Statement.{statement}
+use Rattle.matrix.proofs.file.write_blocks.Tie as tie
+
+abbrev Inv-loop : tie.InvT-loop
+Inv-loop rows out₀ b₀ out b = (b ≤ 12) × Written (tabulate (512 * b) (fileByte matrixB rows)) out₀ out
+
+abbrev μ-loop : tie.MeasureT-loop
+μ-loop rows out₀ b₀ out b = 12 - b
+
+loop-holds : tie.Need-loop-holds Inv-loop μ-loop
+unfolding tabulate
+loop-holds c = (omega arith, written-none)
+
+long : (c : tie.After-block-of Inv-loop μ-loop) → length (c .block-of .result) ≡ 512
+long c =
+    let l = c .before .before in
+    let a = l .before .before .before in
+    ap length (c .block-of .ensures) ∙ length-block (a .args .rows .now) (a .pre .0) (l .loop .b) (omega arith)
+
+loop-again : tie.Need-loop-again Inv-loop μ-loop
+loop-again c =
+    let r = c .before .before .before .before .before in
+    let l = r .before .before in
+    let a = l .before .before .before in
+    let rows = a .args .rows .now in
+    let b = l .loop .b in
+    let e : 512 * (b + 1) ≡ 512 * b + 512 = omega arith in (
+      omega arith,
+      rw e (written-table (512 * b) (fileByte matrixB rows) (r .block-of .result) 512 (l .loop .inv .1)
+          (c .before .before .put .ensures) (r .block-of .ensures ∙ block-part rows (a .pre .0) b (omega arith)) (omega arith)),
+    )
+
+returns : tie.Need-returns Inv-loop μ-loop
+unfolding fileOf fileFrom
+returns c =
+    let l = c .before in
+    let e : 512 * l .loop .b ≡ 6144 = omega arith in
+    let w = rw e at (l .loop .inv .1) in
+    rw (length-tabulate 6144 (fileByte matrixB (l .before .before .before .args .rows .now))) at (w .is)
+
+pub write-blocks-spec : {M : Type 1} → statement M
+write-blocks-spec =
+    tie.close
+    (tie.spec
+    Inv-loop
+    μ-loop
+    loop-holds
+    (λ c κs. omega arith)
+    (λ c. omega (arith, long (c .before)))
+    (λ c. omega arith)
+    (λ c κs. omega (arith, long (c .before .before), c .before .before .before .before .loop .inv .1 .long))
+    (λ c. omega arith)
+    (λ c. omega arith)
+    loop-again
+    (λ c. c .before .loop .inv .1 .long)
+    returns)
