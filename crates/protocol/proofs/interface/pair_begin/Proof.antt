@@ -1,0 +1,22 @@
+-- `protocol::interface::pair_begin` meets its contract: a slice of its length holds what the beginning gave.
+-- Assumes nothing.
+use mathlib.Core.Path.{_≡_, ap, _∙_}
+use borrow.Author.Needs.{needs}
+use Rattle.protocol.specs.Interface.{encodeState}
+use Rattle.protocol.proofs.Encodings.{decode-encode, begin-short, begin-long}
+use Rattle.protocol.proofs.interface.pair_begin.Statement.{statement}
+use Rattle.protocol.proofs.interface.pair_begin.Tie as tie
+
+returns : tie.Need-returns
+returns c =
+    let b = begin-short _ (c .if1 .taken) _ _ _ _ in
+    (b .0, (b .1, decode-encode))
+
+returns-2 : tie.Need-returns-2
+returns-2 c =
+    let g = c .before .before .before .before .before in
+    let b = begin-long _ (g .before .if1 .left) _ _ _ _ in
+    (g .begin .ensures .0 ∙ b .0, (c .before .before .encode .ensures ∙ ap encodeState (g .begin .ensures .1) ∙ b .1, decode-encode))
+
+pub pair-begin-spec : {M : Type 1} → statement M
+pair-begin-spec = tie.close (tie.spec returns (λ c κs. search needs) (λ c κs. search needs) (λ c. search needs) returns-2)

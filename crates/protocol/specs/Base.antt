@@ -1,0 +1,19 @@
+-- The scheme of document 01: 256 bits, 81 digits, the circulant product and the matrix file.
+use Prim.Native.Nat.{ℕ}
+use mathlib.Core.Bool.{false}
+use Rattle.linear.specs.Products.{circulantProduct}
+use Rattle.matrix.specs.File.{fileBytes, faults, rows}
+use Rattle.protocol.specs.Scheme.{Scheme}
+
+abbrev pub base : Scheme
+base =
+    record {
+      keyBytes = 32;
+      innerBytes = 32;
+      digits = 81;
+      product = λ file key label. circulantProduct 32 key label;
+      productReads = false;
+      fileBytes = fileBytes;
+      faults = faults;
+      rows = rows;
+    }

@@ -1,0 +1,2 @@
+// The random source, read two bits at a time.
+pub mod reader;
