@@ -3,6 +3,7 @@ PATH=$PATH:/opt/rattle/bin
 
 INSTALL_RT='the Rattle toolchain: unpack its kit to /opt/rattle'
 INSTALL_CARGO='Rust 1.78 or newer, with cargo: https://rustup.rs'
+INSTALL_GCC='GCC 8 or newer, for C and C++: apt install build-essential, or dnf install gcc gcc-c++'
 
 say() { printf '== %s\n' "$*"; }
 

@@ -20,12 +20,17 @@ pub const STATE_BYTES: usize =
 const STAGES: [Stage; 5] =
     [Stage::Idle, Stage::WaitsForDeal, Stage::WaitsForOpen, Stage::WaitsForMask, Stage::Done];
 
-/// Side, session, stage, key half, label half, deal, own mask.
+/// Where the stage, the side and the session stand: as kind, side and session do
+/// in a frame.
+pub const STAGE_AT: usize = 0;
+pub const SIDE_AT: usize = 1;
+pub const SESSION_AT: usize = 2;
+
+/// Stage, side, session, key half, label half, deal, own mask.
 pub fn encode(state: &State) -> Vec<u8> {
     let stage = STAGES.iter().position(|stage| *stage == state.stage);
-    let mut bytes = vec![state.side];
+    let mut bytes = vec![stage.unwrap_or(0) as u8, state.side];
     bytes.extend(state.session.to_le_bytes());
-    bytes.push(stage.unwrap_or(0) as u8);
     bytes.extend(&state.key_half);
     bytes.extend(&state.label_half);
     bytes.extend(state.deal.bytes());
@@ -36,7 +41,7 @@ pub fn encode(state: &State) -> Vec<u8> {
 /// The state that these bytes stand for, if they have the right length, a side
 /// and a stage; what other bytes stand for is the library's choice.
 pub fn decode(bytes: &[u8]) -> Option<State> {
-    let [side @ (0 | 1), a, b, c, d, stage, rest @ ..] = bytes else {
+    let [stage, side @ (0 | 1), a, b, c, d, rest @ ..] = bytes else {
         return None;
     };
     if bytes.len() != STATE_BYTES {
@@ -57,7 +62,7 @@ pub fn decode(bytes: &[u8]) -> Option<State> {
 
 #[cfg(test)]
 mod tests {
-    use super::{decode, encode, STATE_BYTES};
+    use super::{decode, encode, SIDE_AT, STAGE_AT, STATE_BYTES};
     use crate::random::Random;
     use crate::reference::unit::{begin, State};
 
@@ -77,10 +82,10 @@ mod tests {
     fn encoding_a_decoded_state_gives_its_bytes_back() {
         let mut random = Random::for_test("state bytes");
         let mut bytes = random.bytes(STATE_BYTES);
-        (bytes[0], bytes[5]) = (1, 3);
+        (bytes[SIDE_AT], bytes[STAGE_AT]) = (1, 3);
         let state = decode(&bytes).expect("side 1 and stage 3 are a state");
         assert_eq!(encode(&state), bytes);
-        bytes[5] = 5;
+        bytes[STAGE_AT] = 5;
         assert_eq!(decode(&bytes), None);
     }
 }

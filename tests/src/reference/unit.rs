@@ -179,6 +179,8 @@ fn accepted(state: &State, frame: &Frame, file: &[u8]) -> Step {
     let (kind, body) = match frame.kind {
         DEAL => {
             next.deal = Deal::read(&frame.body);
+            // No mask is known yet, whatever the state held.
+            next.mask = vec![0; STRING_BYTES];
             next.stage = Stage::WaitsForOpen;
             (OPEN, next.open_body())
         }

@@ -8,7 +8,9 @@ use service_pair_tests::reference::frame::{frame_of, length_of_kind};
 use service_pair_tests::reference::numbers::DONE;
 use service_pair_tests::reference::unit::State;
 use service_pair_tests::samples::{change, fit_file, fit_inputs, set_both_bits};
-use service_pair_tests::state_layout::{decode, encode, STATE_BYTES};
+use service_pair_tests::state_layout::{
+    decode, encode, SESSION_AT, SIDE_AT, STAGE_AT, STATE_BYTES,
+};
 
 /// The numbers that a step can give.
 const STEP_NUMBERS: [u32; 11] = [0, 1, 3, 4, 5, 6, 7, 8, 9, 10, 12];
@@ -84,8 +86,8 @@ fn any_state_behaves_as_its_fields_say() {
     let (count, mut accepted) = (3_000, 0);
     for _ in 0..count {
         let mut bytes = random.contents(STATE_BYTES);
-        bytes[0] = random.below(2) as u8;
-        bytes[5] = random.below(5) as u8;
+        bytes[SIDE_AT] = random.below(2) as u8;
+        bytes[STAGE_AT] = random.below(5) as u8;
         let state = decode(&bytes).expect("a side and a stage are a state");
         assert_eq!(encode(&state), bytes);
         let frame = suiting_frame(&mut random, &state);
@@ -106,11 +108,17 @@ fn bytes_of_no_state_keep_the_rules() {
     for trial in 0..count {
         let mut bytes = random.contents(STATE_BYTES);
         if trial % 2 == 0 {
-            bytes[5] = random.below(5) as u8;
+            bytes[STAGE_AT] = random.below(5) as u8;
         }
-        let session = u32::from_le_bytes([bytes[1], bytes[2], bytes[3], bytes[4]]);
+        let session = u32::from_le_bytes([0, 1, 2, 3].map(|at| bytes[SESSION_AT + at]));
         let kind = 1 + random.below(3) as u8;
-        let side = random.choose(&[0, 1, bytes[0], bytes[0] ^ 1, 1u8.wrapping_sub(bytes[0])]);
+        let side = random.choose(&[
+            0,
+            1,
+            bytes[SIDE_AT],
+            bytes[SIDE_AT] ^ 1,
+            1u8.wrapping_sub(bytes[SIDE_AT]),
+        ]);
         let length = length_of_kind(kind).unwrap_or(6) - 6;
         let mut frame = frame_of(kind, side, session, &random.contents(length));
         if kind == 1 {
