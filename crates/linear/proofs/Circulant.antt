@@ -1,18 +1,22 @@
 -- Where the circulant matrix's entries stand in the key, by bytes.
 -- Assumes nothing.
-use mathlib.Core.Path.{_≡_, sym, ap, ap₂, _∙_}
+use mathlib.Core.Path.{_≡_, refl, sym, ap, ap₂, _∙_}
 use mathlib.Core.List.{List}
-use Prim.Native.Nat.{ℕ, _+_, _-_, _*_, _%_, _<_, _≤_}
-use native.Mathlib.Nat.{mul-comm, mul-zero, mod-eq-of-lt, add-mod-right}
+use Prim.Native.Nat.{ℕ, zero, suc, _+_, _-_, _*_, _/_, _%_, _^_, _<_, _≤_}
+use native.Mathlib.Nat.{add-zero, zero-add, mul-comm, mul-zero, mod-eq-of-lt, add-mod-right, mod-add-mod, add-mod-mod}
 use native.Mathlib.Omega.{arith}
-use lib.Bits.{bitXor}
+use lib.Bits.{bitXor, bitAnd, bitOr}
+use lib.Dec.{eqb, eqb→eq}
 use lib.ListN.{take, length-take}
-use Rattle.linear.specs.Tables.{from, sum}
-use Rattle.linear.specs.Bits.{bit}
+use Rattle.linear.specs.Tables.{from, sum, every}
+use Rattle.linear.specs.Bits.{digit, bit, number}
 use Rattle.linear.specs.Products.{bitTerm, bitRow, circulant}
-use Rattle.linear.specs.Planes.{shiftTerm}
-use Rattle.linear.proofs.Sums.{sum-split, sum-ext, sum-zeros, xor-sums}
-use Rattle.linear.proofs.Strings.{bit-take, bit-past}
+use Rattle.linear.specs.Planes.{shiftTerm, masked, Quad}
+use Rattle.linear.proofs.Tables.{every-at}
+use Rattle.linear.proofs.Digits.{number-none, number-ext, number-of, digit-number, digit-xor, digit-and}
+use Rattle.linear.proofs.Sums.{sum-more, sum-split, sum-ext, sum-zero, sum-zeros, xor-sums}
+use Rattle.linear.proofs.Strings.{bit-lt, bit-take, bit-past}
+use Rattle.linear.proofs.Numbers.{window-is, word-digit}
 
 -- a number with a whole turn added is itself modulo the turn
 pub turned : (n x : ℕ) → x < n → x ≡ (x + n) % n
@@ -58,3 +62,189 @@ row-parts n key x i h =
 pub row-sum : (n : ℕ) (key x : List ℕ) (i s u d : ℕ) (a b : List ℕ) → i < 8 * n → s ≡ 8 * n - i → a ≡ take n x → b ≡ take n key
     → u ≡ sum (8 * n) (shiftTerm key a i) % 2 → d ≡ sum (8 * n) (shiftTerm x b s) % 2 → bitXor u d ≡ bitRow n (circulant n key) x i
 row-sum n key x i s u d a b h es ea eb eu ed = xor-sums u d _ _ eu ed ∙ rw (es, ea, eb) (sym (row-parts n key x i h))
+
+-- ---- by words of the whole label
+
+-- a bit, repeated in all 64 places
+pub mask-digit : (b k : ℕ) → b < 2 → k < 64 → digit (b * 18446744073709551615) k ≡ b
+unfolding every
+mask-digit b k h l =
+    eqb→eq (digit (b * 18446744073709551615) k) b
+    (every-at 64 (λ k. eqb (digit (b * 18446744073709551615) k) b) (every-at 2 (λ b. every 64 (λ k. eqb (digit (b * 18446744073709551615) k) b)) tt b h) k l)
+
+-- exclusive or of four words under their masks
+pub masked-digit : (s a b c d ka kb kc kd k : ℕ)
+    → digit (bitXor s (bitXor (bitXor (bitXor (bitAnd a ka) (bitAnd b kb)) (bitAnd c kc)) (bitAnd d kd))) k ≡ masked s a b c d ka kb kc kd k
+masked-digit s a b c d ka kb kc kd k =
+    rw (digit-xor, digit-xor, digit-xor, digit-xor, digit-and, digit-and, digit-and, digit-and) (flat (digit s k) _ _ _ _)
+  where
+    flat : (s a b c d : ℕ) → (s + (((a + b) % 2 + c) % 2 + d) % 2) % 2 ≡ (s + a + b + c + d) % 2
+    flat s a b c d = simp (mod-add-mod, add-mod-mod) (ap (λ (n : ℕ). n % 2) (group s a b c d))
+      where
+        group : (s a b c d : ℕ) → s + (a + b + c + d) ≡ s + a + b + c + d
+        group s a b c d = omega arith
+
+-- bit j of x, counted around its 8n bits
+abbrev pub around : ℕ → List ℕ → ℕ → ℕ
+around n x j = bit x (j % (8 * n))
+
+-- row i and x, multiplied by the place k of the key's bit
+abbrev turnTerm : ℕ → List ℕ → List ℕ → ℕ → ℕ → ℕ
+turnTerm n key x i k = bit key k * around n x (i + k)
+
+-- a row as the sum over the key's bits, with the label turned
+row-turned : (n : ℕ) (key x : List ℕ) (i : ℕ) → i < 8 * n → bitRow n (circulant n key) x i ≡ sum (8 * n) (turnTerm n key x i) % 2
+row-turned n key x i h =
+    let m = 8 * n - i in
+    let t = bitTerm (circulant n key) x i in
+    let g = turnTerm n key x i in
+    let up : sum m (from i t) ≡ sum m g =
+    sum-ext m (from i t) g
+    (λ k l. ap₂ (λ (u v : ℕ). bit key u * bit x v)
+    (ap (λ (u : ℕ). u % (8 * n)) (omega arith) ∙ sym (turned (8 * n) k (omega arith))) (sym (mod-eq-of-lt {n = i + k} (omega arith))))
+    in
+    let down : sum i t ≡ sum i (from m g) =
+    sum-ext i t (from m g)
+    (λ j l. ap₂ (λ (u v : ℕ). bit key u * bit x v) (mod-eq-of-lt {n = j + 8 * n - i} (omega arith) ∙ omega arith)
+    (turned (8 * n) j (omega arith) ∙ ap (λ (u : ℕ). u % (8 * n)) (omega arith)))
+    in
+    let e : 8 * n ≡ i + m = omega arith in
+    let e′ : 8 * n ≡ m + i = omega arith in
+    let whole : sum (8 * n) t ≡ sum i t + sum m (from i t) = ap (λ (k : ℕ). sum k t) e ∙ sum-split i m t in
+    let whole′ : sum (8 * n) g ≡ sum m g + sum i (from m g) = ap (λ (k : ℕ). sum k g) e′ ∙ sum-split m i g in
+    ap (λ (s : ℕ). s % 2) (omega arith)
+
+-- the part of a row's sum from the key's bits 64w + r, r below q
+abbrev turnFour : List ℕ → List ℕ → ℕ → ℕ → ℕ
+turnFour key x i r = sum 4 (λ w. turnTerm 32 key x i (64 * w + r))
+
+abbrev pub turnSum : List ℕ → List ℕ → ℕ → ℕ → ℕ
+turnSum key x q i = sum q (turnFour key x i) % 2
+
+-- sums over rows and over columns are the same
+sum-grid : (n m : ℕ) (f : ℕ → ℕ) → sum n (λ r. sum m (λ w. f (n * w + r))) ≡ sum (n * m) f
+unfolding sum
+sum-grid n zero f = sum-zero n (λ r. 0) (λ _ _. refl) ∙ ap (λ (k : ℕ). sum k f) (sym (mul-zero n))
+sum-grid n (suc m) f =
+    both n (λ r. sum m (λ w. f (n * w + r))) (λ r. f (n * m + r))
+    ∙ ap (λ (s : ℕ). s + sum n (from (n * m) f)) (sum-grid n m f)
+    ∙ sym (sum-split (n * m) n f) ∙ ap (λ (k : ℕ). sum k f) next
+  where
+    next : n * m + n ≡ n * suc m
+    next = omega arith
+
+    both : (n : ℕ) (f g : ℕ → ℕ) → sum n (λ r. f r + g r) ≡ sum n f + sum n g
+    both zero f g = refl
+    both (suc n) f g = omega (arith, both n f g)
+
+-- all 64 of them are the row
+pub turns-all : (key x : List ℕ) (i : ℕ) → i < 256 → turnSum key x 64 i ≡ bitRow 32 (circulant 32 key) x i
+turns-all key x i h = ap (λ (s : ℕ). s % 2) (sum-grid 64 4 (turnTerm 32 key x i)) ∙ sym (row-turned 32 key x i h)
+
+-- four words of what comes round after 256 places, turned by 64 places and by one
+module _ (x : List ℕ) where
+  around-again : (j : ℕ) → around 32 x (j + 256) ≡ around 32 x j
+  around-again j = ap (bit x) (add-mod-right j 256)
+
+  around-lt : (j : ℕ) → around 32 x j < 2
+  around-lt j = bit-lt x (j % 256)
+
+  last-word : (j a : ℕ) → a ≡ number 64 (from j (around 32 x)) → a ≡ number 64 (from (j + 256) (around 32 x))
+  last-word j a e =
+      e ∙ number-ext 64 (from j (around 32 x)) (from (j + 256) (around 32 x)) (λ k _. sym (ap (around 32 x) (omega arith) ∙ around-again (j + k)))
+
+  pub quad-next : {j a b c d p q r s : ℕ} → Quad (around 32 x) j a b c d → p ≡ b → q ≡ c → r ≡ d → s ≡ a → Quad (around 32 x) (j + 64) p q r s
+  quad-next {j} {a} {b} {c} {d} {p} {q} {r} {s} h ep eq er es =
+      let at : (k y : ℕ) → y ≡ number 64 (from (j + (64 + k)) (around 32 x)) → y ≡ number 64 (from (j + 64 + k) (around 32 x)) =
+      λ k y e. let o : j + (64 + k) ≡ j + 64 + k = omega arith in rw o at e
+      in
+      record { first = ep ∙ h .second; second = at 64 q (eq ∙ h .third); third = at 128 r (er ∙ h .fourth); fourth = at 192 s (last-word j s (es ∙ h .first)) }
+
+  one-more : (j a b : ℕ) → a ≡ number 64 (from j (around 32 x)) → b ≡ number 64 (from (j + 64) (around 32 x))
+      → bitOr (a / 2 ^ 1) (b * 2 ^ 63 % 2 ^ 64) ≡ number 64 (from (j + 1) (around 32 x))
+  one-more j a b ea eb =
+      let f = around 32 x in
+      window-is 64 1 a b (from j f) (omega arith) (omega arith) (λ i. around-lt (j + i)) ea
+      (eb ∙ number-ext 64 (from (j + 64) f) (from 64 (from j f)) (λ i _. ap f (omega arith)))
+      ∙ number-ext 64 (from 1 (from j f)) (from (j + 1) f) (λ i _. ap f (omega arith))
+
+  pub quad-turned : {j a b c d p q r s : ℕ} → Quad (around 32 x) j a b c d
+      → p ≡ bitOr (a / 2 ^ 1) (b * 2 ^ 63 % 2 ^ 64) → q ≡ bitOr (b / 2 ^ 1) (c * 2 ^ 63 % 2 ^ 64)
+      → r ≡ bitOr (c / 2 ^ 1) (d * 2 ^ 63 % 2 ^ 64) → s ≡ bitOr (d / 2 ^ 1) (a * 2 ^ 63 % 2 ^ 64) → Quad (around 32 x) (j + 1) p q r s
+  quad-turned {j} {a} {b} {c} {d} {p} {q} {r} {s} h ep eq er es =
+      let at : (k l y : ℕ) → j + k ≡ l → y ≡ number 64 (from (j + k) (around 32 x)) → y ≡ number 64 (from l (around 32 x)) =
+      λ k l y o e. rw o at e
+      in
+      let to : (k l y : ℕ) → l ≡ j + 1 + k → y ≡ number 64 (from l (around 32 x)) → y ≡ number 64 (from (j + 1 + k) (around 32 x)) =
+      λ k l y o e. rw o at e
+      in
+      record {
+        first = ep ∙ one-more j a b (h .first) (h .second);
+        second = to 64 (j + 64 + 1) q (omega arith) (eq ∙ one-more (j + 64) b c (h .second) (at 128 (j + 64 + 64) c (omega arith) (h .third)));
+        third = to 128 (j + 128 + 1) r (omega arith) (er ∙ one-more (j + 128) c d (h .third) (at 192 (j + 128 + 64) d (omega arith) (h .fourth)));
+        fourth = to 192 (j + 192 + 1) s (omega arith) (es ∙ one-more (j + 192) d a (h .fourth) (at 256 (j + 192 + 64) a (omega arith) (last-word j a (h .first))));
+      }
+
+added : (s t a b c d u v w z : ℕ) → s ≡ t % 2 → a ≡ u → b ≡ v → c ≡ w → d ≡ z → (s + a + b + c + d) % 2 ≡ (t + (0 + u + v + w + z)) % 2
+added s t a b c d u v w z es ea eb ec ed = rw (es, ea, eb, ec, ed) (ap (λ (n : ℕ). n % 2) group ∙ mod-add-mod t 2 (0 + u + v + w + z))
+  where
+    group : t % 2 + u + v + w + z ≡ t % 2 + (0 + u + v + w + z)
+    group = omega arith
+
+-- the masks of the key's bits 64w + q
+pub key-masks : (key : List ℕ) (q ka kb kc kd : ℕ) {a b c d : ℕ} → q < 64 → Quad (bit key) 0 a b c d
+    → ((k : ℕ) → k < 64 → (digit ka k ≡ digit a q) × (digit kb k ≡ digit b q) × (digit kc k ≡ digit c q) × (digit kd k ≡ digit d q))
+    → (k : ℕ) → k < 64 → (digit ka k ≡ bit key q) × (digit kb k ≡ bit key (64 + q)) × (digit kc k ≡ bit key (128 + q)) × (digit kd k ≡ bit key (192 + q))
+key-masks key q ka kb kc kd {a} {b} {c} {d} h e m k l = (
+  m k l .0 ∙ word-digit key 0 a (e .first) q h ∙ ap (bit key) (zero-add q),
+  m k l .1 ∙ word-digit key 64 b (e .second) q h,
+  m k l .2 ∙ word-digit key 128 c (e .third) q h,
+  m k l .3 ∙ word-digit key 192 d (e .fourth) q h,
+)
+
+-- one word of the sum more: the four words of the label under the key's bits 64w + q
+pub turn-more : (key x : List ℕ) (q j o ka kb kc kd : ℕ) {s r a b c d : ℕ} → o ≡ q + j → r < 2 ^ 64
+    → s ≡ number 64 (from j (turnSum key x q)) → Quad (around 32 x) o a b c d
+    → ((k : ℕ) → digit r k ≡ masked s a b c d ka kb kc kd k)
+    → ((k : ℕ) → k < 64 → (digit ka k ≡ bit key q) × (digit kb k ≡ bit key (64 + q)) × (digit kc k ≡ bit key (128 + q)) × (digit kd k ≡ bit key (192 + q)))
+    → r ≡ number 64 (from j (turnSum key x (q + 1)))
+unfolding sum
+turn-more key x q j o ka kb kc kd {s} {r} {a} {b} {c} {d} eo h es e er ek =
+    let f = around 32 x in
+    let term : (k w y m : ℕ) → k < 64 → y ≡ number 64 (from (o + 64 * w) f) → digit m k ≡ bit key (64 * w + q)
+    → digit y k * digit m k ≡ turnTerm 32 key x (j + k) (64 * w + q) =
+    λ k w y m l p b. let z : o + 64 * w + k ≡ j + k + (64 * w + q) = omega arith in
+    ap₂ _*_ (ap (λ (t : ℕ). digit t k) p ∙ digit-number 64 (from (o + 64 * w) f) (λ i. around-lt x (o + 64 * w + i)) k l ∙ ap f z) b
+    ∙ mul-comm (f (j + k + (64 * w + q))) (bit key (64 * w + q))
+    in
+    let first : a ≡ number 64 (from (o + 0) f) = e .first ∙ ap (λ (i : ℕ). number 64 (from i f)) (sym (add-zero o)) in
+    number-of 64 r (from j (turnSum key x (q + 1))) h
+    (λ k l. let before : digit s k ≡ turnSum key x q (j + k) =
+    ap (λ (t : ℕ). digit t k) es ∙ digit-number 64 (from j (turnSum key x q)) (λ i. omega arith) k l
+    in
+    er k ∙ added _ _ _ _ _ _ _ _ _ _ before (term k 0 a ka l first (ek k l .0 ∙ ap (bit key) (sym (zero-add q)))) (term k 1 b kb l (e .second) (ek k l .1))
+    (term k 2 c kc l (e .third) (ek k l .2)) (term k 3 d kd l (e .fourth) (ek k l .3))
+    ∙ ap (λ (n : ℕ). n % 2) (sym (sum-more q (turnFour key x (j + k)))))
+
+-- where the loop begins
+pub quad-around : (x : List ℕ) {a b c d : ℕ} → Quad (bit x) 0 a b c d → Quad (around 32 x) 0 a b c d
+quad-around x q =
+    record { first = q .first ∙ e 0 (omega arith); second = q .second ∙ e 64 (omega arith); third = q .third ∙ e 128 (omega arith); fourth = q .fourth ∙ e 192 (omega arith) }
+  where
+    e : (o : ℕ) → o + 64 ≤ 256 → number 64 (from o (bit x)) ≡ number 64 (from o (around 32 x))
+    e o h = number-ext 64 (from o (bit x)) (from o (around 32 x)) (λ k l. ap (bit x) (sym (mod-eq-of-lt {n = o + k} {m = 256} (omega arith))))
+
+pub quad-none : (key x : List ℕ) → Quad (turnSum key x 0) 0 0 0 0 0
+unfolding sum
+quad-none key x = record { first = e 0; second = e 64; third = e 128; fourth = e 192 }
+  where
+    e : (o : ℕ) → 0 ≡ number 64 (from o (turnSum key x 0))
+    e o = sym (number-none 64 (from o (turnSum key x 0)) (λ _ _. refl))
+
+-- where it ends
+pub quad-all : (key x : List ℕ) {a b c d : ℕ} → Quad (turnSum key x 64) 0 a b c d → Quad (bitRow 32 (circulant 32 key) x) 0 a b c d
+quad-all key x q =
+    record { first = q .first ∙ e 0 (omega arith); second = q .second ∙ e 64 (omega arith); third = q .third ∙ e 128 (omega arith); fourth = q .fourth ∙ e 192 (omega arith) }
+  where
+    e : (o : ℕ) → o + 64 ≤ 256 → number 64 (from o (turnSum key x 64)) ≡ number 64 (from o (bitRow 32 (circulant 32 key) x))
+    e o h = number-ext 64 (from o (turnSum key x 64)) (from o (bitRow 32 (circulant 32 key) x)) (λ k l. turns-all key x (o + k) (omega arith))

@@ -1,14 +1,14 @@
 -- Laws of a number's bits, at any width.
 -- Assumes nothing.
-use mathlib.Core.Path.{_≡_, refl, sym, ap, _∙_}
-use Prim.Native.Nat.{ℕ, zero, suc, _+_, _*_, _/_, _%_, _^_, _<_, suc-le-suc}
-use native.Mathlib.Nat.{not-suc-le-zero, le-of-suc-le-suc, zero-lt-suc, pow-suc, mul-comm, mod-lt, zero-div, div-div-eq-div-mul}
+use mathlib.Core.Path.{_≡_, refl, sym, ap, ap₂, _∙_}
+use Prim.Native.Nat.{ℕ, zero, suc, _+_, _-_, _*_, _/_, _%_, _^_, _<_, suc-le-suc}
+use native.Mathlib.Nat.{add-zero, zero-add, suc-add, not-suc-le-zero, le-of-suc-le-suc, zero-lt-suc, pow-suc, mul-comm, mod-lt, zero-div, div-div-eq-div-mul}
 use native.Mathlib.Numerals.{add-one}
 use native.Mathlib.Omega.{arith}
-use lib.Pow.{shl-exact}
+use lib.Pow.{shl-exact, field, mod-mod-pow}
 use lib.Bits.{bitXor, bitAnd, bitOr, or-shifted-r, xor-shr, xor-mod, and-shr, and-mod, or-shr, or-mod}
 use Rattle.linear.specs.Bits.{digit, number}
-use Rattle.linear.specs.Tables.{every}
+use Rattle.linear.specs.Tables.{every, from}
 use Rattle.linear.proofs.Tables.{same₂}
 
 -- bit k + 1 of x is bit k of its half
@@ -28,6 +28,12 @@ unfolding number
 number-lt zero f b = zero-lt-suc 0
 number-lt (suc k) f b = omega (arith, b 0, number-lt k (λ i. f (suc i)) (λ i. b (suc i)))
 
+-- a number of no set bits is 0
+pub number-none : (k : ℕ) (f : ℕ → ℕ) → ((i : ℕ) → i < k → f i ≡ 0) → number k f ≡ 0
+unfolding number
+number-none zero f e = refl
+number-none (suc k) f e = omega (arith, e 0 (zero-lt-suc k), number-none k (λ i. f (suc i)) (λ i h. e (suc i) (suc-le-suc h)))
+
 -- a number is the number of its bits
 pub number-digits : (k x : ℕ) → x < 2 ^ k → number k (digit x) ≡ x
 unfolding number
@@ -39,6 +45,20 @@ pub number-more : (k : ℕ) (f : ℕ → ℕ) → number (suc k) f ≡ f k * 2 ^
 unfolding number
 number-more zero f = omega arith
 number-more (suc k) f = rw (number-more k (λ i. f (suc i)), pow-suc) (omega arith)
+
+-- a number of one bit more, in front
+pub number-front : (k q : ℕ) (f : ℕ → ℕ) → number (suc k) (from q f) ≡ f q + 2 * number k (from (suc q) f)
+unfolding number
+number-front k q f =
+    ap₂ (λ (x y : ℕ). x + 2 * y) (ap f (add-zero q)) (number-ext k (λ i. f (q + suc i)) (from (suc q) f) (λ i _. ap f (omega arith)))
+
+-- bits that are 0 from n on add nothing
+pub number-zeros : (n k : ℕ) (f : ℕ → ℕ) → ((i : ℕ) → f (n + i) ≡ 0) → number (n + k) f ≡ number n f
+unfolding number
+number-zeros zero k f e = ap (λ (j : ℕ). number j f) (zero-add k) ∙ number-none k f (λ i _. ap f (sym (zero-add i)) ∙ e i)
+number-zeros (suc n) k f e =
+    ap (λ (j : ℕ). number j f) (suc-add n k)
+    ∙ ap (λ (x : ℕ). f 0 + 2 * x) (number-zeros n k (λ i. f (suc i)) (λ i. ap f (sym (suc-add n i)) ∙ e i))
 
 -- `x | (b << k)` at width w: one bit more
 pub or-more : (w k x b : ℕ) (f : ℕ → ℕ) → k < w → ((i : ℕ) → f i < 2) → x ≡ number k f → b ≡ f k → bitOr x (b * 2 ^ k % 2 ^ w) ≡ number (k + 1) f
@@ -71,6 +91,12 @@ digit-lt x k = mod-lt (x / 2 ^ k) (zero-lt-suc 1)
 pub digit-zero : (k : ℕ) → digit 0 k ≡ 0
 digit-zero k = rw zero-div
 
+-- the low w bits of a number are its own
+pub digit-mod : (w x k : ℕ) → k < w → digit (x % 2 ^ w) k ≡ digit x k
+digit-mod w x k h =
+    let e : w ≡ w - suc k + 1 + k = omega arith in
+    ap (λ (n : ℕ). digit (x % 2 ^ n) k) e ∙ ap (λ (z : ℕ). z % 2) (field x (w - suc k + 1) k) ∙ mod-mod-pow (x / 2 ^ k) (w - suc k) 1
+
 -- exclusive or of two bits is their sum modulo 2
 pub xor-bits : (a b : ℕ) → a < 2 → b < 2 → bitXor a b ≡ (a + b) % 2
 unfolding every
@@ -94,3 +120,7 @@ or-digit x y k = ap (λ (z : ℕ). z % 2) (or-shr x y k) ∙ or-mod (x / 2 ^ k) 
 -- bit k of an exclusive or is the sum of the bits modulo 2
 pub digit-xor : (x y k : ℕ) → digit (bitXor x y) k ≡ (digit x k + digit y k) % 2
 digit-xor x y k = xor-digit x y k ∙ xor-bits (digit x k) (digit y k) (digit-lt x k) (digit-lt y k)
+
+-- bit k of an and is the product of the bits
+pub digit-and : (x y k : ℕ) → digit (bitAnd x y) k ≡ digit x k * digit y k
+digit-and x y k = and-digit x y k ∙ and-bits (digit x k) (digit y k) (digit-lt x k) (digit-lt y k)

@@ -11,7 +11,7 @@ use lib.Seq.{drop-length, drop-drop, length-take-le, set-append-left, getD-appen
 use Rattle.linear.specs.Tables.{tabulate}
 use Rattle.linear.specs.Bits.{byteOf, pack}
 use Rattle.linear.specs.Trits.{low, high, packTrits}
-use Rattle.linear.specs.Planes.{Eight}
+use Rattle.linear.specs.Planes.{Run}
 use Rattle.linear.proofs.Tables.{length-tabulate}
 
 -- d, with its first i elements overwritten by f 0, f 1, .. f (i − 1)
@@ -90,7 +90,7 @@ module _ {m : ℕ} {f : ℕ → ℕ} {d : List ℕ} where
       }
 
   -- one byte more of each
-  pub planes-more : {i : ℕ} {s : List ℕ} {x y : ℕ} → Planes m f i d s → i < m → Eight f i x y → Planes m f (i + 1) d (set (set s i x) (m + i) y)
+  pub planes-more : {i : ℕ} {s : List ℕ} {x y : ℕ} → Planes m f i d s → i < m → Run 8 f i x y → Planes m f (i + 1) d (set (set s i x) (m + i) y)
   planes-more {i} {s} {x} {y} p h e =
       let a = p .first in
       let b = p .second in

@@ -3,7 +3,8 @@
 use mathlib.Core.Path.{_≡_, refl, sym, ap, subst, _∙_}
 use mathlib.Core.List.{List}
 use mathlib.Core.Bool.{Bool, true, false, cond}
-use Prim.Native.Nat.{ℕ, zero, suc, _+_, _-_, _*_, _^_, _<_, _≤_, min, zero-le}
+use Prim.Native.Nat.{ℕ, zero, suc, _+_, _-_, _*_, _%_, _^_, _<_, _≤_, min, zero-le}
+use native.Mathlib.Nat.{zero-add}
 use native.Mathlib.Decide.{decLt}
 use native.Mathlib.Omega.{arith}
 use lib.Bits.{bitXor, bitAnd, bitOr, or-zero-l, or-add-and, and-le-l, and-le-r}
@@ -12,13 +13,13 @@ use lib.ListN.{getD}
 use lib.Pow.{ones-lt, pow-mono}
 use borrow.Author.Tests.{lt-ltb, le-ltb}
 use Rattle.linear.specs.Tables.{every, from}
-use Rattle.linear.specs.Bits.{digit, number, byteOf}
+use Rattle.linear.specs.Bits.{digit, bit, number, byteOf}
 use Rattle.linear.specs.Trits.{trit, fitTrit, fitTrits, zeroTrits}
-use Rattle.linear.specs.Planes.{Shows, inside, fitBefore, zeroAfter, Looked}
+use Rattle.linear.specs.Planes.{Shows, inside, fitBefore, zeroAfter}
 use Rattle.linear.proofs.Tables.{every-at, every-of, same₂}
-use Rattle.linear.proofs.Digits.{number-of, digit-number, digit-lt, digit-zero, and-digit, or-digit, xor-digit}
+use Rattle.linear.proofs.Digits.{number-none, number-of, digit-number, digit-lt, digit-mod, digit-zero, and-digit, or-digit, xor-digit}
 use Rattle.linear.proofs.Strings.{byte-is}
-use Rattle.linear.proofs.Planes.{trit-at}
+use Rattle.linear.proofs.Planes.{trit-at, trit-word}
 
 -- ---- all places of some bytes
 
@@ -31,37 +32,47 @@ bool-ext false true f g = absurd (g tt)
 to-zero : (x : ℕ) → x ≡ 0 → T (eqb x 0)
 to-zero x e = rw e tt
 
-zero-digits : (x : ℕ) → x < 256 → ((k : ℕ) → k < 8 → digit x k ≡ 0) → x ≡ 0
-unfolding number
-zero-digits x h e = number-of 8 x (λ _. 0) h e
+zero-digits : (w x : ℕ) → x < 2 ^ w → ((k : ℕ) → k < w → digit x k ≡ 0) → x ≡ 0
+zero-digits w x h e = number-of w x (λ _. 0) h e ∙ number-none w (λ _. 0) (λ _ _. refl)
 
--- one byte more
-pub gather : (test : ℕ → Bool) (i acc x : ℕ) → x < 256 → Shows test i x → eqb acc 0 ≡ every (8 * i) test → eqb (bitOr acc x) 0 ≡ every (8 * (i + 1)) test
-gather test i acc x h s e = bool-ext (eqb (bitOr acc x) 0) (every (8 * (i + 1)) test) to fro
+-- w places more, from p on, of which some may be known already
+pub gather : (test : ℕ → Bool) (p w i acc x : ℕ) → p ≤ i → i ≤ p + w → x < 2 ^ w → Shows w test p x → eqb acc 0 ≡ every i test → eqb (bitOr acc x) 0 ≡ every (p + w) test
+gather test p w i acc x hp hi h s e = bool-ext (eqb (bitOr acc x) 0) (every (p + w) test) to fro
   where
-    to : T (eqb (bitOr acc x) 0) → T (every (8 * (i + 1)) test)
+    to : T (eqb (bitOr acc x) 0) → T (every (p + w) test)
     to z =
         let o : bitOr acc x ≡ 0 = eqb→eq (bitOr acc x) 0 z in
         let ea : acc ≡ 0 = omega (arith, or-add-and acc x, and-le-r acc x) in
         let ex : x ≡ 0 = omega (arith, or-add-and acc x, and-le-l acc x) in
-        let before : T (every (8 * i) test) = subst T e (to-zero acc ea) in
-        every-of (8 * (i + 1)) test (λ j l. pick j l before ex (decLt j (8 * i)))
+        let before : T (every i test) = subst T e (to-zero acc ea) in
+        every-of (p + w) test (λ j l. pick j l before ex (decLt j i))
       where
-        pick : (j : ℕ) → j < 8 * (i + 1) → T (every (8 * i) test) → x ≡ 0 → Dec (j < 8 * i) → T (test j)
-        pick j l b ex (yes r) = every-at (8 * i) test b j r
+        pick : (j : ℕ) → j < p + w → T (every i test) → x ≡ 0 → Dec (j < i) → T (test j)
+        pick j l b ex (yes r) = every-at i test b j r
         pick j l b ex (no r) =
-            let o : 8 * i + (j - 8 * i) ≡ j = omega arith in
-            rw o at (subst T (s (j - 8 * i) (omega arith)) (to-zero (digit x (j - 8 * i)) (ap (λ (z : ℕ). digit z (j - 8 * i)) ex ∙ digit-zero (j - 8 * i))))
+            let o : p + (j - p) ≡ j = omega arith in
+            rw o at (subst T (s (j - p) (omega arith)) (to-zero (digit x (j - p)) (ap (λ (z : ℕ). digit z (j - p)) ex ∙ digit-zero (j - p))))
 
-    fro : T (every (8 * (i + 1)) test) → T (eqb (bitOr acc x) 0)
+    fro : T (every (p + w) test) → T (eqb (bitOr acc x) 0)
     fro z =
-        let ea : acc ≡ 0 = eqb→eq acc 0 (subst T (sym e) (every-of (8 * i) test (λ j l. every-at (8 * (i + 1)) test z j (omega arith)))) in
-        let ex : x ≡ 0 = zero-digits x h (λ k l. eqb→eq (digit x k) 0 (subst T (sym (s k l)) (every-at (8 * (i + 1)) test z (8 * i + k) (omega arith)))) in
+        let ea : acc ≡ 0 = eqb→eq acc 0 (subst T (sym e) (every-of i test (λ j l. every-at (p + w) test z j (omega arith)))) in
+        let ex : x ≡ 0 = zero-digits w x h (λ k l. eqb→eq (digit x k) 0 (subst T (sym (s k l)) (every-at (p + w) test z (p + k) (omega arith)))) in
         to-zero (bitOr acc x) (omega (arith, or-add-and acc x))
 
+-- the first w places
+pub gather-first : (test : ℕ → Bool) (w x : ℕ) → x < 2 ^ w → Shows w test 0 x → eqb x 0 ≡ every w test
+unfolding every
+gather-first test w x h s =
+    ap (λ (y : ℕ). eqb y 0) (sym (or-zero-l x)) ∙ gather test 0 w 0 0 x zero-le zero-le h s refl ∙ ap (λ (n : ℕ). every n test) (zero-add w)
+
+-- one byte more
+pub gather-byte : (test : ℕ → Bool) (i acc x : ℕ) → x < 256 → Shows 8 test (8 * i) x → eqb acc 0 ≡ every (8 * i) test → eqb (bitOr acc x) 0 ≡ every (8 * (i + 1)) test
+gather-byte test i acc x h s e =
+    gather test (8 * i) 8 (8 * i) acc x (omega arith) (omega arith) h s e ∙ ap (λ (n : ℕ). every n test) (omega arith)
+
 -- one byte more, where all before it were 0
-pub gather-zero : (test : ℕ → Bool) (i x : ℕ) → x < 256 → Shows test i x → true ≡ every (8 * i) test → eqb x 0 ≡ every (8 * (i + 1)) test
-gather-zero test i x h s e = ap (λ (y : ℕ). eqb y 0) (sym (or-zero-l x)) ∙ gather test i 0 x h s e
+pub gather-zero : (test : ℕ → Bool) (i x : ℕ) → x < 256 → Shows 8 test (8 * i) x → true ≡ every (8 * i) test → eqb x 0 ≡ every (8 * (i + 1)) test
+gather-zero test i x h s e = ap (λ (y : ℕ). eqb y 0) (sym (or-zero-l x)) ∙ gather-byte test i 0 x h s e
 
 -- a test that fails before n fails below every larger bound
 pub every-fails : (n k : ℕ) (test : ℕ → Bool) → n ≤ k → every n test ≡ false → false ≡ every k test
@@ -140,6 +151,9 @@ fit-bits : (b : Bool) (x y : ℕ) → x < 2 → y < 2 → eqb (bitAnd (bitAnd x 
 fit-bits true = two-bits (λ x y. eqb (bitAnd (bitAnd x y) 1) 0 ≡ ltb (x + 2 * y) 3) refl refl refl refl
 fit-bits false = two-bits (λ x y. eqb (bitAnd (bitAnd x y) 0) 0 ≡ true) refl refl refl refl
 
+both-bits : (x y : ℕ) → x < 2 → y < 2 → eqb (bitAnd x y) 0 ≡ ltb (x + 2 * y) 3
+both-bits = two-bits (λ x y. eqb (bitAnd x y) 0 ≡ ltb (x + 2 * y) 3) refl refl refl refl
+
 zero-bits : (x y : ℕ) → x < 2 → y < 2 → eqb (bitOr x y) 0 ≡ eqb (x + 2 * y) 0
 zero-bits = two-bits (λ x y. eqb (bitOr x y) 0 ≡ eqb (x + 2 * y) 0) refl refl refl refl
 
@@ -149,18 +163,29 @@ spare-bits false = two-bits (λ x y. eqb (bitXor (bitOr x y) (bitAnd (bitOr x y)
 
 -- what byte i of each plane shows of the trits
 module _ (m : ℕ) (v : List ℕ) (i x y : ℕ) (ex : x ≡ getD v i 0) (ey : y ≡ getD v (m + i) 0) where
-  shows-fit : (t z : ℕ) → z ≡ byteOf (inside t) i → Shows (fitBefore m t v) i (bitAnd (bitAnd x y) z)
+  pub shows-fit : (t z : ℕ) → z ≡ byteOf (inside t) i → Shows 8 (fitBefore m t v) (8 * i) (bitAnd (bitAnd x y) z)
   shows-fit t z ez k h =
       rw (trit-at m v i k h, ← ex, ← ey, and-digit, and-digit, inside-digit t i z k ez h) (fit-bits (ltb (8 * i + k) t) (digit x k) (digit y k) (digit-lt x k) (digit-lt y k))
 
-  shows-spare : (t z : ℕ) → z ≡ byteOf (inside t) i → Shows (zeroAfter m t v) i (bitXor (bitOr x y) (bitAnd (bitOr x y) z))
+  pub shows-spare : (t z : ℕ) → z ≡ byteOf (inside t) i → Shows 8 (zeroAfter m t v) (8 * i) (bitXor (bitOr x y) (bitAnd (bitOr x y) z))
   shows-spare t z ez k h =
       rw (trit-at m v i k h, ← ex, ← ey, xor-digit, and-digit, or-digit, inside-digit t i z k ez h)
       (spare-bits (ltb (8 * i + k) t) (digit x k) (digit y k) (digit-lt x k) (digit-lt y k))
 
-  pub looked : (t z : ℕ) → z ≡ byteOf (inside t) i → Looked m t v i (bitAnd (bitAnd x y) z) (bitXor (bitOr x y) (bitAnd (bitOr x y) z))
-  looked t z ez = record { fit = shows-fit t z ez; zero = shows-spare t z ez }
-
-  pub shows-zero : Shows (zeroAfter m 0 v) i (bitOr x y)
+  pub shows-zero : Shows 8 (zeroAfter m 0 v) (8 * i) (bitOr x y)
   shows-zero k h =
       rw (le-ltb (8 * i + k) 0 zero-le, trit-at m v i k h, ← ex, ← ey, or-digit) (zero-bits (digit x k) (digit y k) (digit-lt x k) (digit-lt y k))
+
+-- what a word of each plane shows of the trits
+pub shows-both : (m : ℕ) (v : List ℕ) (i x y : ℕ) → x ≡ number 64 (from (8 * i) (bit v)) → y ≡ number 64 (from (8 * (m + i)) (bit v))
+    → Shows 64 (fitTrit m v) (8 * i) (bitAnd x y)
+shows-both m v i x y ex ey k h = rw (trit-word m v i x y ex ey k h, and-digit) (both-bits (digit x k) (digit y k) (digit-lt x k) (digit-lt y k))
+
+-- the first places of those
+pub shows-less : (w n : ℕ) (test : ℕ → Bool) (j x : ℕ) → w ≤ n → Shows n test j x → Shows w test j (x % 2 ^ w)
+shows-less w n test j x h s k l = rw (digit-mod w x k l) (s k (omega arith))
+
+-- before byte t / 8 nothing is spare
+pub none-spare : (m t : ℕ) (v : List ℕ) (i : ℕ) → 8 * i ≤ t → eqb 0 0 ≡ every (8 * i) (zeroAfter m t v)
+none-spare m t v i h =
+    bool-ext true (every (8 * i) (zeroAfter m t v)) (λ _. every-of (8 * i) (zeroAfter m t v) (λ j l. rw (lt-ltb j t (omega arith)) tt)) (λ _. tt)

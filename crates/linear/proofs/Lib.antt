@@ -8,6 +8,8 @@ pub mod Linearity
 -- The laws of what only the functions here do.
 pub mod Filling
 pub mod Numbers
+pub mod Stores
+pub mod Thirds
 pub mod Circulant
 pub mod Planes
 pub mod Gathers

@@ -1,6 +1,6 @@
 -- Products are linear, and the two inner shares add to the inner vector.
 -- Assumes nothing.
-use mathlib.Core.Path.{_≡_, refl, sym, ap, ap₂, _∙_}
+use mathlib.Core.Path.{_≡_, refl, ap, _∙_}
 use mathlib.Core.List.{List}
 use mathlib.Core.Bool.{Bool, true, false, cond}
 use Prim.Native.Nat.{ℕ, zero, suc, _+_, _-_, _*_, _/_, _%_, _<_, _≤_}
@@ -10,7 +10,7 @@ use lib.Arith.{digits-mod}
 use lib.Dec.{T, ltb, lit<}
 use Rattle.linear.specs.Tables.{sum, below}
 use Rattle.linear.specs.Bits.{Bytes, bit, sumBit, addBits}
-use Rattle.linear.specs.Trits.{trit, fitTrits, packTrits, sumTrit, addTrits, innerTrit, innerShare}
+use Rattle.linear.specs.Trits.{trit, fitTrits, sumTrit, addTrits, innerTrit, innerShare}
 use Rattle.linear.specs.Products.{bitTerm, bitRow, bitProduct, circulant, circulantProduct, Bilinear, tritTerm, row, rowDigit, matrixProduct}
 use Rattle.linear.proofs.Sums.{dot-add, dot-add-left}
 use Rattle.linear.proofs.Strings.{bit-lt, bit-add, bit-pack, bytes-pack, pack-ext}

@@ -1,17 +1,25 @@
 -- Laws of a matrix of trits whose rows stand one after the other.
 -- Assumes nothing.
-use mathlib.Core.Path.{_≡_, sym, _∙_}
+use mathlib.Core.Path.{_≡_, sym, ap, _∙_}
 use mathlib.Core.List.{List}
-use Prim.Native.Nat.{ℕ, _+_, _-_, _*_, _<_, _≤_, min}
-use native.Mathlib.Nat.{mul-zero}
+use mathlib.Core.Bool.{Bool, cond}
+use Prim.Native.Nat.{ℕ, suc, _+_, _-_, _*_, _/_, _%_, _<_, _≤_, min}
+use native.Mathlib.Nat.{mul-zero, zero-add, mod-mod}
 use native.Mathlib.Decide.{decLt}
 use native.Mathlib.Omega.{arith}
 use lib.Dec.{ltb}
+use lib.Pow.{pow-mono}
 use lib.ListN.{length, drop, drop-of-length-le}
 use lib.Seq.{drop-drop, drop-length}
 use borrow.Author.Tests.{lt-ltb, le-ltb}
-use Rattle.linear.specs.Tables.{below}
+use Rattle.linear.specs.Tables.{below, from, sum}
+use Rattle.linear.specs.Bits.{bit, number}
+use Rattle.linear.specs.Trits.{low, high}
 use Rattle.linear.specs.Products.{rowProduct, rowDigit}
+use Rattle.linear.specs.Planes.{Run}
+use Rattle.linear.proofs.Digits.{number-ext, number-front, number-lt, number-zeros}
+use Rattle.linear.proofs.Sums.{add-congr, sum-add, sum-ext, sum-split}
+use Rattle.linear.proofs.Strings.{bit-drop}
 
 -- a cut past the end is a cut at the end
 pub drop-min : (k : ℕ) (l : List ℕ) → drop (min k (length l)) l ≡ drop k l
@@ -51,3 +59,74 @@ matrix-first m t rows v h = rw (lt-ltb 0 t h, mul-zero)
 -- no rows
 pub matrix-none : (m t : ℕ) (rows v : List ℕ) → t ≤ 0 → 0 ≡ below t (rowDigit m rows v) 0
 matrix-none m t rows v h = rw (le-ltb 0 t h)
+
+-- ---- rows of 64 bytes
+
+-- a word of a row that starts at byte `at`
+pub word-drop : (s : List ℕ) (at j o x : ℕ) → o ≡ at + j → x ≡ number 64 (from (8 * o) (bit s)) → x ≡ number 64 (from (8 * j) (bit (drop at s)))
+word-drop s at j o x e p =
+    p ∙ number-ext 64 (from (8 * o) (bit s)) (from (8 * j) (bit (drop at s)))
+    (λ k _. ap (bit s) (omega arith) ∙ sym (bit-drop at s (8 * j + k)))
+
+-- 256 terms, added in two words of 64 digits
+pub quarter-sums : (f p q : ℕ → ℕ) → ((k : ℕ) → k < 64 → p k ≡ (f (0 + k) + f (128 + k)) % 3) → ((k : ℕ) → k < 64 → q k ≡ (f (64 + k) + f (192 + k)) % 3)
+    → (sum 64 p + sum 64 q) % 3 ≡ sum 256 f % 3
+quarter-sums f p q ep eq =
+    let a = sum-add 3 64 (from 0 f) (from 128 f) p (λ k l. sym (ap (λ (z : ℕ). z % 3) (ep k l) ∙ mod-mod _ 3)) in
+    let b = sum-add 3 64 (from 64 f) (from 192 f) q (λ k l. sym (ap (λ (z : ℕ). z % 3) (eq k l) ∙ mod-mod _ 3)) in
+    let z : sum 64 (from 0 f) ≡ sum 64 f = sum-ext 64 (from 0 f) f (λ k _. ap f (zero-add k)) in
+    let whole : sum 256 f ≡ sum 64 f + sum 64 (from 128 f) + (sum 64 (from 64 f) + sum 64 (from 192 f)) =
+    omega (arith, sum-split 192 64 f, sum-split 128 64 f, sum-split 64 64 f)
+    in
+    add-congr 3 (sum 64 p) (sum 64 q) (sum 64 f + sum 64 (from 128 f)) (sum 64 (from 64 f) + sum 64 (from 192 f)) (sym (rw z at a)) (sym b)
+    ∙ ap (λ (z : ℕ). z % 3) (sym whole)
+
+-- row q of those from byte `at` on
+pub row-at : (t at : ℕ) (rows v : List ℕ) (q : ℕ) → q < t → rowProduct 32 (drop (at + 64 * q) rows) v ≡ below t (rowDigit 32 (drop at rows) v) q
+row-at t at rows v q h = rw (lt-ltb q t h, drop-drop)
+
+-- the bits of the rows from q on, last first
+module _ (t : ℕ) (g : ℕ → ℕ) where
+  pub bits-more : (q x b : ℕ) → 0 < q → q ≤ t → x ≡ number (t - q) (from q g) → b ≡ g (q - 1) → 2 * x + b ≡ number (t - (q - 1)) (from (q - 1) g)
+  bits-more q x b h l e p =
+      let s : t - (q - 1) ≡ suc (t - q) = omega arith in
+      let o : suc (q - 1) ≡ q = omega arith in
+      rw (s, number-front (t - q) (q - 1) g, o, ← e, ← p) (omega arith)
+
+  pub bits-small : (q x : ℕ) → ((i : ℕ) → g i < 2) → t ≤ 8 → 0 < q → x ≡ number (t - q) (from q g) → x < 128
+  bits-small q x b h l e = omega (arith, number-lt (t - q) (from q g) (λ i. b (q + i)), pow-mono {i = t - q} {j = 7} (omega arith))
+
+  pub bits-all : (x : ℕ) → ((i : ℕ) → g (t + i) ≡ 0) → t ≤ 8 → x ≡ number t (from 0 g) → x ≡ number 8 (from 0 g)
+  bits-all x z h e =
+      let s : t + (8 - t) ≡ 8 = omega arith in
+      e ∙ sym (rw s at (number-zeros t (8 - t) (from 0 g) (λ i. ap g (zero-add (t + i)) ∙ z i)))
+
+pub below-past : (t : ℕ) (f : ℕ → ℕ) (i : ℕ) → below t f (t + i) ≡ 0
+below-past t f i = rw (le-ltb (t + i) t (omega arith))
+
+-- eight of the rows are all that eight bits show
+pub below-min : (t : ℕ) (f : ℕ → ℕ) (x y : ℕ) → Run 8 (below (min t 8) f) 0 x y → Run 8 (below t f) 0 x y
+below-min t f x y r =
+    record {
+      low-is = r .low-is ∙ number-ext 8 (from 0 (low (below (min t 8) f))) (from 0 (low (below t f))) (λ k l. ap (λ (d : ℕ). d % 2) (same k l));
+      high-is = r .high-is ∙ number-ext 8 (from 0 (high (below (min t 8) f))) (from 0 (high (below t f))) (λ k l. ap (λ (d : ℕ). d / 2) (same k l));
+    }
+  where
+    same : (k : ℕ) → k < 8 → below (min t 8) f (0 + k) ≡ below t f (0 + k)
+    same k l = ap (λ (b : Bool). cond b (f (0 + k)) 0) (go (decLt k t))
+      where
+        go : Dec (k < t) → ltb (0 + k) (min t 8) ≡ ltb (0 + k) t
+        go (yes h) = lt-ltb (0 + k) (min t 8) (omega arith) ∙ sym (lt-ltb (0 + k) t (omega arith))
+        go (no h) = le-ltb (0 + k) (min t 8) (omega arith) ∙ sym (le-ltb (0 + k) t (omega arith))
+
+-- the rows that are left are there
+pub rows-fit : (n t p at left c : ℕ) → 64 * t ≤ n → at ≡ min (2 * 32 * (8 * p)) n → left ≡ t - 8 * p → c ≡ min left 8 → (c ≤ 8) × (at + 64 * c ≤ n)
+rows-fit n t p at left c h ea el ec = (omega arith, go (decLt (8 * p) t))
+  where
+    go : Dec (8 * p < t) → at + 64 * c ≤ n
+    go (yes l) =
+        let e : at ≡ 64 * (8 * p) = omega arith in
+        omega arith
+    go (no l) =
+        let e : c ≡ 0 = omega arith in
+        omega arith

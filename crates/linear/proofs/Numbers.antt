@@ -60,27 +60,55 @@ byte-part s i k x e h =
     (λ j l. let t : 8 * (i + k) + j ≡ 8 * i + (8 * k + j) = omega arith in
     ap (λ (y : ℕ). digit y j) e ∙ sym (bit-at s (i + k) j l) ∙ ap (bit s) t)
 
+-- half a word from its four bytes, and a word from its halves
+pub half-bytes : (s : List ℕ) (i a b c d : ℕ) → ((k : ℕ) → getD s k 0 < 256) → a ≡ getD s i 0 → b ≡ getD s (i + 1) 0 → c ≡ getD s (i + 2) 0 → d ≡ getD s (i + 3) 0
+    → bitOr (bitOr (bitOr a (b * 2 ^ 8 % 2 ^ 64)) (c * 2 ^ 16 % 2 ^ 64)) (d * 2 ^ 24 % 2 ^ 64) ≡ number 32 (from (8 * i) (bit s))
+half-bytes s i a b c d small ea eb ec ed =
+    let w = from (8 * i) (bit s) in
+    let more : (k x y : ℕ) → 8 + 8 * k ≤ 64 → x ≡ number (8 * k) w → y ≡ getD s (i + k) 0 → bitOr x (y * 2 ^ (8 * k) % 2 ^ 64) ≡ number (8 * k + 8) w =
+    λ k x y l p q. or-part 64 (8 * k) 8 x y w l (λ j. bit-lt s (8 * i + j)) p (byte-part s i k y q (rw q (small (i + k))))
+    in
+    let first : a ≡ number 8 w =
+    byte-part s i 0 a (ea ∙ ap (λ (k : ℕ). getD s k 0) (sym (add-zero i))) (rw ea (small i)) ∙ number-ext 8 (from 0 w) w (λ j _. ap w (zero-add j))
+    in
+    more 3 _ d (omega arith) (more 2 _ c (omega arith) (more 1 a b (omega arith) first eb) ec) ed
+
+pub word-halves : (s : List ℕ) (i a b : ℕ) → a ≡ number 32 (from (8 * i) (bit s)) → b ≡ number 32 (from (8 * (i + 4)) (bit s))
+    → bitOr a (b * 2 ^ 32 % 2 ^ 64) ≡ number 64 (from (8 * i) (bit s))
+word-halves s i a b ea eb =
+    let w = from (8 * i) (bit s) in
+    or-part 64 32 32 a b w (omega arith) (λ j. bit-lt s (8 * i + j)) ea
+    (eb ∙ number-ext 32 (from (8 * (i + 4)) (bit s)) (from 32 w) (λ j _. ap (bit s) (omega arith)))
+
 -- a byte shifted out of a word at the top
 shl-cut : (b k q : ℕ) → b * 2 ^ k % 2 ^ (q + k) ≡ b % 2 ^ q * 2 ^ k
 shl-cut b k q = mod-pow-add (b * 2 ^ k) q k ∙ rw (shl-shr b k, mul-mod-left b (2 ^ k), add-zero)
 
--- `(x >> q) | (b << (64 - q))`, where b are the eight bits after x
-pub window-is : (q x b : ℕ) (f : ℕ → ℕ) → q < 8 → ((i : ℕ) → f i < 2) → x ≡ number 64 f → b ≡ number 8 (from 64 f)
+-- `(x >> q) | (b << (64 - q))`, where b are the n bits after x
+pub window-is : (n q x b : ℕ) (f : ℕ → ℕ) → q ≤ n → q ≤ 64 → ((i : ℕ) → f i < 2) → x ≡ number 64 f → b ≡ number n (from 64 f)
     → bitOr (x / 2 ^ q) (b * 2 ^ (64 - q) % 2 ^ 64) ≡ number 64 (from q f)
-window-is q x b f h l p e =
+window-is n q x b f h h′ l p e =
     let k = 64 - q in
     let t : q + k ≡ 64 = omega arith in
-    let u : q + (8 - q) ≡ 8 = omega arith in
+    let u : q + (n - q) ≡ n = omega arith in
     let cut : b * 2 ^ k % 2 ^ 64 ≡ b % 2 ^ q * 2 ^ k % 2 ^ 64 =
     rw t at (shl-cut b k q) ∙ sym (shl-exact q k 64 (mod-lt b (pow-pos q)) (omega arith))
     in
     let hi : x / 2 ^ q ≡ number k (from q f) = rw p (rw t at (number-high q k f l)) in
     let lo : b % 2 ^ q ≡ number q (from k (from q f)) =
-    rw e (rw u at (number-low q (8 - q) (from 64 f) (λ i. l (64 + i))))
+    rw e (rw u at (number-low q (n - q) (from 64 f) (λ i. l (64 + i))))
     ∙ number-ext q (from 64 f) (from k (from q f)) (λ i _. ap f (omega arith))
     in
     let w : k + q ≡ 64 = omega arith in
     rw (cut, or-part 64 k q (x / 2 ^ q) (b % 2 ^ q) (from q f) (omega arith) (λ i. l (q + i)) hi lo, w)
+
+-- byte k of a word
+pub word-byte : (k x : ℕ) (f : ℕ → ℕ) → k < 8 → ((i : ℕ) → f i < 2) → x ≡ number 64 f → x / 2 ^ (8 * k) % 2 ^ 8 ≡ number 8 (from (8 * k) f)
+word-byte k x f h l p =
+    let a = 8 * k in
+    let b = 56 - 8 * k in
+    let t : a + (8 + b) ≡ 64 = omega arith in
+    rw (p, ← t, number-high a (8 + b) f l) (number-low 8 b (from a f) (λ i. l (a + i)))
 
 -- bit k of a word of a string
 pub word-digit : (s : List ℕ) (m x : ℕ) → x ≡ number 64 (from m (bit s)) → (k : ℕ) → k < 64 → digit x k ≡ bit s (m + k)

@@ -1,24 +1,27 @@
 -- Laws of trits in two planes: sums, differences and products by operations on whole bytes or words.
 -- Assumes nothing.
-use mathlib.Core.Path.{_≡_, refl, sym, ap, ap₂, _∙_}
+use mathlib.Core.Path.{_≡_, refl, ap, ap₂, _∙_}
 use mathlib.Core.List.{List}
 use mathlib.Core.Bool.{Bool, true, false, cond}
-use Prim.Native.Nat.{ℕ, zero, suc, _+_, _-_, _*_, _/_, _%_, _<_, _≤_}
+use Prim.Native.Nat.{ℕ, zero, suc, _+_, _-_, _*_, _%_, _^_, _<_, _≤_}
 use native.Mathlib.Nat.{add-mul-mod-self-left, add-mod, mod-mod, mod-add-mod, add-mod-mod, mul-zero, le-step}
 use native.Mathlib.Omega.{arith}
+use borrow.Author.Tests.{lt-ltb}
 use lib.Bits.{bitXor, bitAnd}
-use lib.Dec.{eqb}
+use lib.Dec.{ltb}
 use lib.ListN.{length, getD, take, drop}
 use Rattle.linear.specs.Tables.{from, every, sum}
 use Rattle.linear.specs.Bits.{digit, bit, number}
-use Rattle.linear.specs.Trits.{trit, low, high, sumTrit, differenceTrit, innerTrit}
+use Rattle.linear.specs.Trits.{trit, low, high}
 use Rattle.linear.specs.Products.{tritTerm}
-use Rattle.linear.specs.Planes.{tritOf, tritSum, plane, Eight, nonzero, twos, planeTerm}
-use Rattle.linear.proofs.Tables.{same₄}
-use Rattle.linear.proofs.Digits.{number-ext, digit-lt, digit-zero, xor-digit, and-digit}
+use Rattle.linear.specs.Planes.{tritOf, Run, Narrow, sumLow, sumHigh, nonzero, twos, planeTerm}
+use Rattle.linear.proofs.Tables.{same₂, same₄}
+use Rattle.linear.proofs.Digits.{number-ext, number-of, digit-lt, digit-mod, digit-zero, xor-digit, and-digit, or-digit}
 use Rattle.linear.proofs.Sums.{add-congr, mul-congr, sum-split, sum-ext, sum-zeros}
-use Rattle.linear.proofs.Strings.{bit-at, bit-past, bit-take, bit-drop, byte-is}
+use Rattle.linear.proofs.Strings.{bit-at, bit-past, bit-take, bit-drop}
 use Rattle.linear.proofs.Numbers.{word-digit}
+
+-- ---- trits from bytes and words
 
 -- trit 8i + k has its bits in bytes i and m + i
 pub trit-at : (m : ℕ) (v : List ℕ) (i k : ℕ) → k < 8 → trit m v (8 * i + k) ≡ tritOf (getD v i 0) (getD v (m + i) 0) k
@@ -27,83 +30,85 @@ trit-at m v i k h =
     let e : 8 * m + (8 * i + k) ≡ 8 * (m + i) + k = omega arith in
     rw (e, bit-at v i k h, bit-at v (m + i) k h)
 
--- ---- sums
+module _ (m : ℕ) (v : List ℕ) (i x u : ℕ) where
+  pub trit-byte : x ≡ getD v i 0 → u ≡ getD v (m + i) 0 → (k : ℕ) → k < 8 → trit m v (8 * i + k) ≡ tritOf x u k
+  trit-byte ex eu k h = rw (trit-at m v i k h, ex, eu)
 
-plane-digit : (x u y w k : ℕ) → digit (plane x u y w) k ≡ plane (digit x k) (digit u k) (digit y k) (digit w k)
-plane-digit x u y w k = simp (xor-digit, and-digit)
+  pub trit-word : x ≡ number 64 (from (8 * i) (bit v)) → u ≡ number 64 (from (8 * (m + i)) (bit v)) → (k : ℕ) → k < 64 → trit m v (8 * i + k) ≡ tritOf x u k
+  unfolding trit
+  trit-word ex eu k h =
+      let e : 8 * m + (8 * i + k) ≡ 8 * (m + i) + k = omega arith in
+      rw (e, ← word-digit v (8 * i) x ex k h, ← word-digit v (8 * (m + i)) u eu k h)
 
--- a plane of a sum, at all sixteen choices of four bits
-module _ (x u y w k : ℕ) where
-  plane-low : digit (plane x u y w) k ≡ low (tritSum x u y w) k
-  unfolding every
-  plane-low =
-      plane-digit x u y w k
-      ∙ same₄ 2 plane (λ a b c d. (a + 2 * b + (c + 2 * d)) % 3 % 2) tt _ _ _ _ (digit-lt x k) (digit-lt u k) (digit-lt y k) (digit-lt w k)
-
-  plane-high : digit (plane u x w y) k ≡ high (tritSum x u y w) k
-  unfolding every
-  plane-high =
-      plane-digit u x w y k
-      ∙ same₄ 2 (λ a b c d. plane b a d c) (λ a b c d. (a + 2 * b + (c + 2 * d)) % 3 / 2) tt _ _ _ _ (digit-lt x k) (digit-lt u k) (digit-lt y k) (digit-lt w k)
-
--- eight trits f, from the sum of their planes in either order
-pub eight : (f : ℕ → ℕ) (i p q x u y w : ℕ) → p < 256 → q < 256 → p ≡ plane x u y w → q ≡ plane u x w y
-    → ((k : ℕ) → k < 8 → f (8 * i + k) ≡ tritSum x u y w k) → Eight f i p q
-eight f i p q x u y w hp hq ep eq t =
+-- w trits f, from words that have them
+pub run-of : (w : ℕ) (f : ℕ → ℕ) (i p q : ℕ) → p < 2 ^ w → q < 2 ^ w → ((k : ℕ) → k < w → tritOf p q k ≡ f (8 * i + k)) → Run w f i p q
+run-of w f i p q hp hq e =
     record {
-      low-is = byte-is (low f) i p hp (λ k l. ap (λ (z : ℕ). digit z k) ep ∙ plane-low x u y w k ∙ rw (t k l));
-      high-is = byte-is (high f) i q hq (λ k l. ap (λ (z : ℕ). digit z k) eq ∙ plane-high x u y w k ∙ rw (t k l));
+      low-is = number-of w p (from (8 * i) (low f)) hp (λ k l. omega (arith, e k l));
+      high-is = number-of w q (from (8 * i) (high f)) hq (λ k l. omega (arith, e k l));
     }
 
--- trit 8i + k of a sum, by its four bytes
-pub sum-trit : (m : ℕ) (a b : List ℕ) (i x u y w : ℕ) → x ≡ getD a i 0 → u ≡ getD a (m + i) 0 → y ≡ getD b i 0 → w ≡ getD b (m + i) 0
-    → (k : ℕ) → k < 8 → sumTrit m a b (8 * i + k) ≡ tritSum x u y w k
-sum-trit m a b i x u y w ex eu ey ew k h = rw (trit-at m a i k h, trit-at m b i k h, ex, eu, ey, ew)
-
--- twice a trit is its bits in the other order, modulo 3
-negated : (x y z : ℕ) → (x + 2 * (z + 2 * y)) % 3 ≡ (x + 2 * 0 + (y + 2 * z)) % 3
-negated x y z =
-    ap {B = ℕ} (λ s. s % 3) {y = x + 2 * 0 + (y + 2 * z) + 3 * y} (omega arith) ∙ add-mul-mod-self-left (x + 2 * 0 + (y + 2 * z)) 3 y
-
--- trit 8i + k of a difference, by its three bytes
-pub difference-trit : (m : ℕ) (w r : List ℕ) (i x y z : ℕ) → x ≡ getD w i 0 → y ≡ getD r (m + i) 0 → z ≡ getD r i 0
-    → (k : ℕ) → k < 8 → differenceTrit m w r (8 * i + k) ≡ tritSum x 0 y z k
-difference-trit m w r i x y z ex ey ez k h =
-    rw (bit-at w i k h, trit-at m r i k h, ex, ey, ez, digit-zero k) (negated _ _ _)
-
-digit-cond : (b : Bool) (a k : ℕ) → digit (cond b a 0) k ≡ cond b (digit a k) 0
-digit-cond true a k = refl
-digit-cond false a k = digit-zero k
-
--- r + ŵ × r: the planes of r change places where ŵ has a 1
-turned-digit : (x u a s k : ℕ) → (tritOf x u k + digit a k * tritOf x u k + digit s k) % 3
-    ≡ tritSum (bitXor x (bitAnd a (bitXor x u))) (bitXor u (bitAnd a (bitXor x u))) s 0 k
-unfolding every
-turned-digit x u a s k =
-    simp (xor-digit, and-digit, digit-zero)
-    (same₄ 2 (λ x u a s. (x + 2 * u + a * (x + 2 * u) + s) % 3)
-    (λ x u a s. (bitXor x (bitAnd a (bitXor x u)) + 2 * bitXor u (bitAnd a (bitXor x u)) + (s + 2 * 0)) % 3) tt _ _ _ _
-    (digit-lt x k) (digit-lt u k) (digit-lt a k) (digit-lt s k))
-
--- trit 8i + k of an inner share, by its three bytes and what the side adds
-pub inner-trit : (m side : ℕ) (w r : List ℕ) (i a x u s : ℕ) → a ≡ getD w i 0 → x ≡ getD r i 0 → u ≡ getD r (m + i) 0 → s ≡ cond (eqb side 0) a 0
-    → (k : ℕ) → k < 8 → innerTrit m side w r (8 * i + k) ≡ tritSum (bitXor x (bitAnd a (bitXor x u))) (bitXor u (bitAnd a (bitXor x u))) s 0 k
-inner-trit m side w r i a x u s ea ex eu es k h =
-    let e : cond (eqb side 0) (digit a k) 0 ≡ digit s k = sym (ap (λ (z : ℕ). digit z k) es ∙ digit-cond (eqb side 0) a k) in
-    rw (bit-at w i k h, trit-at m r i k h, ← ea, ← ex, ← eu, e) (turned-digit x u a s k)
+-- and from their low bytes
+pub run-narrow : (f : ℕ → ℕ) (i x u p q : ℕ) → Narrow x u p q → ((k : ℕ) → k < 8 → tritOf x u k ≡ f (8 * i + k)) → Run 8 f i p q
+run-narrow f i x u p q n e =
+    run-of 8 f i p q (omega arith) (omega arith)
+    (λ k l. ap₂ (λ (y z : ℕ). y + 2 * z) (ap (λ (y : ℕ). digit y k) (n .low-is) ∙ digit-mod 8 x k l) (ap (λ (y : ℕ). digit y k) (n .high-is) ∙ digit-mod 8 u k l)
+    ∙ e k l)
 
 -- the same eight trits elsewhere
-pub eight-ext : (f g : ℕ → ℕ) (i j x y : ℕ) → ((k : ℕ) → f (8 * i + k) ≡ g (8 * j + k)) → Eight f i x y → Eight g j x y
-eight-ext f g i j x y e r =
+pub run-ext : (f g : ℕ → ℕ) (i j x y : ℕ) → ((k : ℕ) → f (8 * i + k) ≡ g (8 * j + k)) → Run 8 f i x y → Run 8 g j x y
+run-ext f g i j x y e r =
     record {
       low-is = r .low-is ∙ number-ext 8 (from (8 * i) (low f)) (from (8 * j) (low g)) (λ k _. rw (e k));
       high-is = r .high-is ∙ number-ext 8 (from (8 * i) (high f)) (from (8 * j) (high g)) (λ k _. rw (e k));
     }
 
+-- ---- sums, at all choices of the bits
+
+pub fit-digit : (x u k : ℕ) → tritOf (bitXor x (bitAnd x u)) (bitXor u (bitAnd x u)) k ≡ tritOf x u k % 3
+unfolding every
+fit-digit x u k =
+    simp (xor-digit, and-digit)
+    (same₂ 2 (λ x u. bitXor x (bitAnd x u) + 2 * bitXor u (bitAnd x u)) (λ x u. (x + 2 * u) % 3) tt _ _ (digit-lt x k) (digit-lt u k))
+
+pub add-digit : (x u y w k : ℕ) → tritOf x u k < 3 → tritOf y w k < 3 → tritOf (sumLow x u y w) (sumHigh x u y w) k ≡ (tritOf x u k + tritOf y w k) % 3
+unfolding every
+add-digit x u y w k hs ht =
+    simp (xor-digit, or-digit)
+    (rw (lt-ltb (tritOf x u k) 3 hs, lt-ltb (tritOf y w k) 3 ht) at
+    (same₄ 2 (λ x u y w. cond (ltb (x + 2 * u) 3) (cond (ltb (y + 2 * w) 3) (sumLow x u y w + 2 * sumHigh x u y w) 0) 0)
+    (λ x u y w. cond (ltb (x + 2 * u) 3) (cond (ltb (y + 2 * w) 3) ((x + 2 * u + (y + 2 * w)) % 3) 0) 0) tt
+    _ _ _ _ (digit-lt x k) (digit-lt u k) (digit-lt y k) (digit-lt w k)))
+
+-- the sum of what is below 3, from remainders
+pub added-mod : (r s t a b : ℕ) → (s < 3 → t < 3 → r ≡ (s + t) % 3) → s ≡ a % 3 → t ≡ b % 3 → r ≡ (a + b) % 3
+added-mod r s t a b e p q = e (omega arith) (omega arith) ∙ rw (p, q, ← add-mod)
+
+-- a bit as a trit
+pub low-trit : (x k : ℕ) → tritOf x 0 k ≡ digit x k % 3
+low-trit x k = rw (digit-zero k) (omega arith)
+
+-- twice a trit is its bits in the other order, modulo 3
+pub negated : (x y z : ℕ) → (x + 2 * (z + 2 * y)) % 3 ≡ (x + (y + 2 * z)) % 3
+negated x y z = ap {B = ℕ} (λ s. s % 3) {y = x + (y + 2 * z) + 3 * y} (omega arith) ∙ add-mul-mod-self-left (x + (y + 2 * z)) 3 y
+
+pub digit-cond : (b : Bool) (a k : ℕ) → digit (cond b a 0) k ≡ cond b (digit a k) 0
+digit-cond true a k = refl
+digit-cond false a k = digit-zero k
+
+-- r + ŵ × r: the planes of r change places where ŵ has a 1
+pub turned-digit : (x u a k : ℕ) → tritOf (bitXor x (bitAnd a (bitXor x u))) (bitXor u (bitAnd a (bitXor x u))) k % 3 ≡ (tritOf x u k + digit a k * tritOf x u k) % 3
+unfolding every
+turned-digit x u a k =
+    simp (xor-digit, and-digit)
+    (same₄ 2 (λ x u a _. (bitXor x (bitAnd a (bitXor x u)) + 2 * bitXor u (bitAnd a (bitXor x u))) % 3)
+    (λ x u a _. (x + 2 * u + a * (x + 2 * u)) % 3) tt _ _ _ _
+    (digit-lt x k) (digit-lt u k) (digit-lt a k) (digit-lt a k))
+
 -- ---- products
 
 -- the product of two trits, at all sixteen choices of their bits
-pub product-digit : (x u y w k : ℕ) → digit (bitXor (nonzero x u y w) (twos x u y w)) k + 2 * digit (twos x u y w) k ≡ tritOf x u k * tritOf y w k % 3
+pub product-digit : (x u y w k : ℕ) → tritOf (bitXor (nonzero x u y w) (twos x u y w)) (twos x u y w) k ≡ tritOf x u k * tritOf y w k % 3
 unfolding every
 product-digit x u y w k =
     simp (xor-digit, and-digit)

@@ -9,10 +9,9 @@ use lib.Bits.{bitXor, xor-lt}
 use lib.Dec.{lit<}
 use lib.ListN.{length, getD, take, drop, length-drop, length-append, List·getD-append, List·getD-eq-default}
 use lib.Seq.{ext-getD, getD-append-add, getD-drop, getD-take, length-take-le}
-use Rattle.linear.specs.Tables.{from}
 use Rattle.linear.specs.Bits.{Bytes, zeros, digit, bit, byteOf, pack, sumBit, addBits}
 use Rattle.linear.proofs.Tables.{length-tabulate, getD-tabulate, tabulate-ext, small-tabulate}
-use Rattle.linear.proofs.Digits.{number-ext, number-lt, number-of, digit-number, digit-lt, digit-zero, digit-xor}
+use Rattle.linear.proofs.Digits.{number-ext, number-lt, number-of, digit-number, digit-zero, digit-xor}
 
 -- ---- single bits
 
@@ -113,22 +112,23 @@ pub bytes-append : {n k : ℕ} {a b : List ℕ} → Bytes n a → Bytes k b → 
 bytes-append {a = a} {b = b} ha hb =
     record { size = rw (length-append, ha .size, hb .size); small = small-append a b (ha .small) (hb .small) }
 
-small-zeros : (n i : ℕ) → getD (zeros n) i 0 ≡ 0
-small-zeros zero i = refl
-small-zeros (suc n) zero = refl
-small-zeros (suc n) (suc i) = small-zeros n i
+-- every byte of a string of zeros is 0
+pub getD-zeros : (n i : ℕ) → getD (zeros n) i 0 ≡ 0
+getD-zeros zero i = refl
+getD-zeros (suc n) zero = refl
+getD-zeros (suc n) (suc i) = getD-zeros n i
 
 pub length-zeros : (n : ℕ) → length (zeros n) ≡ n
 length-zeros zero = refl
 length-zeros (suc n) = ap suc (length-zeros n)
 
 pub bytes-zeros : (n : ℕ) → Bytes n (zeros n)
-bytes-zeros n = record { size = length-zeros n; small = λ i. rw (small-zeros n i) (lit< tt) }
+bytes-zeros n = record { size = length-zeros n; small = λ i. rw (getD-zeros n i) (lit< tt) }
 
 -- a string of zeros has no bit set
 pub bit-zeros : (n j : ℕ) → bit (zeros n) j ≡ 0
 unfolding bit
-bit-zeros n j = rw (small-zeros n (j / 8)) (digit-zero (j % 8))
+bit-zeros n j = rw (getD-zeros n (j / 8)) (digit-zero (j % 8))
 
 -- the bits of two strings in a row
 module _ (n : ℕ) where

@@ -7,7 +7,7 @@ use native.Mathlib.Nat.{add-zero, add-assoc, add-suc, add-mod, le-refl, le-step,
 use native.Mathlib.Numerals.{add-one}
 use native.Mathlib.Omega.{arith}
 use lib.Bits.{bitXor}
-use Rattle.linear.specs.Tables.{sum, from}
+use Rattle.linear.specs.Tables.{sum}
 use Rattle.linear.proofs.Digits.{xor-bits}
 
 -- ---- parts of a sum

@@ -1,18 +1,17 @@
 -- Laws of trit vectors: what is packed, fitness, sums and differences modulo 3.
 -- Assumes nothing.
-use mathlib.Core.Path.{_≡_, refl, sym, ap, ap₂, _∙_}
+use mathlib.Core.Path.{_≡_, sym, ap, ap₂, _∙_}
 use mathlib.Core.List.{List, _++_}
-use mathlib.Core.Bool.{Bool, true, false, cond}
-use Prim.Native.Nat.{ℕ, zero, suc, _+_, _-_, _*_, _/_, _%_, _<_, _≤_}
+use Prim.Native.Nat.{ℕ, _+_, _*_, _/_, _%_, _<_, _≤_}
 use native.Mathlib.Nat.{mod-add-mod, add-mod-mod, add-mul-mod-self-left, mod-eq-of-lt}
 use native.Mathlib.Omega.{arith}
 use lib.ListN.{length, take, drop, take-append-drop, length-drop, length-append}
 use lib.Seq.{take-all}
 use lib.Dec.{T, lt→ltb, ltb→lt}
 use Rattle.linear.specs.Bits.{Bytes, zeros, bit, pack}
-use Rattle.linear.specs.Trits.{trit, low, high, packTrits, fitTrit, fitTrits, sumTrit, addTrits, differenceTrit, subtractTrits, innerTrit, innerShare, bitTrits}
+use Rattle.linear.specs.Trits.{trit, low, high, packTrits, fitTrit, fitTrits, sumTrit, addTrits, differenceTrit, subtractTrits, bitTrits}
 use Rattle.linear.proofs.Tables.{every-at, every-of}
-use Rattle.linear.proofs.Strings.{bit-lt, bit-pack, bit-zeros, pack-ext, pack-bits, length-pack, bytes-pack, bytes-slice, bytes-append, bytes-zeros, bit-append-left, bit-append-right}
+use Rattle.linear.proofs.Strings.{bit-lt, bit-pack, bit-zeros, pack-ext, pack-bits, length-pack, bytes-pack, bytes-slice, bytes-append, bit-append-left, bit-append-right}
 
 module _ (m : ℕ) where
   pub trit-lt : (v : List ℕ) (j : ℕ) → trit m v j < 4

@@ -1,13 +1,36 @@
 -- What contracts of private functions say: no public contract cites this file, and a reader of those need not believe it.
-use Prim.Native.Nat.{ℕ, _+_, _*_, _%_, _<_}
+use Prim.Native.Nat.{ℕ, _+_, _*_, _/_, _%_, _^_, _<_}
 use mathlib.Core.Path.{_≡_}
 use mathlib.Core.List.{List, [], _∷_}
 use mathlib.Core.Bool.{Bool, true, cond}
-use lib.Bits.{bitXor, bitAnd}
+use lib.Bits.{bitXor, bitAnd, bitOr}
 use lib.Dec.{ltb, eqb}
-use Rattle.linear.specs.Tables.{every}
-use Rattle.linear.specs.Bits.{digit, bit, byteOf}
+use lib.ListN.{set}
+use Rattle.linear.specs.Tables.{from}
+use Rattle.linear.specs.Bits.{digit, bit, number}
 use Rattle.linear.specs.Trits.{trit, low, high, fitTrit}
+
+-- a, b, c, d are the words of the 256 bits of f from j on
+pub record Quad (f : ℕ → ℕ) (j a b c d : ℕ) : Type 0 where
+  pub first : a ≡ number 64 (from j f)
+  pub second : b ≡ number 64 (from (j + 64) f)
+  pub third : c ≡ number 64 (from (j + 128) f)
+  pub fourth : d ≡ number 64 (from (j + 192) f)
+
+-- s with the four low bytes of x from place i on, with all eight, and with four words
+unfoldable pub setHalf : List ℕ → ℕ → ℕ → List ℕ
+setHalf s i x = set (set (set (set s i (x / 2 ^ 0 % 256)) (i + 1) (x / 2 ^ 8 % 256)) (i + 2) (x / 2 ^ 16 % 256)) (i + 3) (x / 2 ^ 24 % 256)
+
+unfoldable pub setWord : List ℕ → ℕ → ℕ → List ℕ
+setWord s i x = setHalf (setHalf s i x) (i + 4) (x / 2 ^ 32)
+
+unfoldable pub setFour : List ℕ → ℕ → ℕ → ℕ → ℕ → ℕ → List ℕ
+setFour s i a b c d = setWord (setWord (setWord (setWord s i a) (i + 8) b) (i + 16) c) (i + 24) d
+
+-- bit k of s, to which four words are added under their masks, modulo 2
+abbrev pub masked : ℕ → ℕ → ℕ → ℕ → ℕ → ℕ → ℕ → ℕ → ℕ → ℕ → ℕ
+masked s a b c d ka kb kc kd k =
+    (digit s k + digit a k * digit ka k + digit b k * digit kb k + digit c k * digit kc k + digit d k * digit kd k) % 2
 
 -- bit j of a times bit s + j of b
 abbrev pub shiftTerm : List ℕ → List ℕ → ℕ → ℕ → ℕ
@@ -17,23 +40,25 @@ shiftTerm a b s j = bit a j * bit b (s + j)
 abbrev pub tritOf : ℕ → ℕ → ℕ → ℕ
 tritOf x u k = digit x k + 2 * digit u k
 
--- the trits of planes x, u and of planes y, w, added in place k, modulo 3
-abbrev pub tritSum : ℕ → ℕ → ℕ → ℕ → ℕ → ℕ
-tritSum x u y w k = (tritOf x u k + tritOf y w k) % 3
+-- x and y are w bits of each plane of the trits f, from byte i on
+pub record Run (w : ℕ) (f : ℕ → ℕ) (i x y : ℕ) : Type 0 where
+  pub low-is : x ≡ number w (from (8 * i) (low f))
+  pub high-is : y ≡ number w (from (8 * i) (high f))
 
--- one plane of that sum, by the code's operations on whole bytes: its high plane is the low plane of the planes in the other order
-abbrev pub plane : ℕ → ℕ → ℕ → ℕ → ℕ
-plane x u y w =
-    let p = bitXor x (bitAnd x u) in
-    let q = bitXor u (bitAnd x u) in
-    let r = bitXor y (bitAnd y w) in
-    let s = bitXor w (bitAnd y w) in
-    bitXor (bitXor (bitXor (bitXor p r) (bitAnd p s)) (bitAnd r q)) (bitAnd q s)
+-- p and q are the low bytes of x and u
+pub record Narrow (x u p q : ℕ) : Type 0 where
+  pub low-is : p ≡ x % 256
+  pub high-is : q ≡ u % 256
 
--- x and y are byte i of each plane of the trits f
-pub record Eight (f : ℕ → ℕ) (i x y : ℕ) : Type 0 where
-  pub low-is : x ≡ byteOf (low f) i
-  pub high-is : y ≡ byteOf (high f) i
+-- the sum of two fit trits in the other plane's terms, and its two planes, by the code's operations on whole words
+abbrev pub oddOf : ℕ → ℕ → ℕ → ℕ → ℕ
+oddOf x u y w = bitXor (bitOr x w) (bitOr u y)
+
+abbrev pub sumLow : ℕ → ℕ → ℕ → ℕ → ℕ
+sumLow x u y w = bitXor (bitOr u w) (oddOf x u y w)
+
+abbrev pub sumHigh : ℕ → ℕ → ℕ → ℕ → ℕ
+sumHigh x u y w = bitXor (bitOr x y) (oddOf x u y w)
 
 -- where the product of trits of planes x, u and of planes y, w is not 0, and where it is 2, by the code's operations on whole words
 abbrev pub nonzero : ℕ → ℕ → ℕ → ℕ → ℕ
@@ -41,6 +66,13 @@ nonzero x u y w = bitAnd (bitXor x u) (bitXor y w)
 
 abbrev pub twos : ℕ → ℕ → ℕ → ℕ → ℕ
 twos x u y w = bitAnd (nonzero x u y w) (bitXor u w)
+
+-- two words whose bits at even places count once and at odd places twice, modulo 3: the first plus twice the second has the digits of planes x, u
+abbrev pub plusOf : ℕ → ℕ → ℕ
+plusOf x u = bitXor (bitAnd (bitXor x u) 6148914691236517205) u
+
+abbrev pub minusOf : ℕ → ℕ → ℕ
+minusOf x u = bitXor (bitAnd (bitXor x u) 6148914691236517205) x
 
 -- the table of the products of two digits modulo 3, as it stands in the code
 abbrev pub digitProducts : List (List ℕ)
@@ -50,9 +82,9 @@ digitProducts = (0 ∷ 0 ∷ 0 ∷ []) ∷ (0 ∷ 1 ∷ 2 ∷ []) ∷ (0 ∷ 2 �
 abbrev pub planeTerm : ℕ → List ℕ → List ℕ → List ℕ → ℕ → ℕ
 planeTerm m row lo hi j = trit m row j * (bit lo j + 2 * bit hi j)
 
--- x has its bit k clear just where the test holds at 8i + k
-abbrev pub Shows : (ℕ → Bool) → ℕ → ℕ → Type 0
-Shows test i x = (k : ℕ) → k < 8 → eqb (digit x k) 0 ≡ test (8 * i + k)
+-- the w bits of x are clear just where the test holds, from place j on
+abbrev pub Shows : ℕ → (ℕ → Bool) → ℕ → ℕ → Type 0
+Shows w test j x = (k : ℕ) → k < w → eqb (digit x k) 0 ≡ test (j + k)
 
 -- place j is before t
 abbrev pub inside : ℕ → ℕ → ℕ
@@ -65,13 +97,3 @@ fitBefore m t v j = cond (ltb j t) (fitTrit m v j) true
 -- trit j is 0, where j is not before t
 abbrev pub zeroAfter : ℕ → ℕ → List ℕ → ℕ → Bool
 zeroAfter m t v j = cond (ltb j t) true (eqb (trit m v j) 0)
-
--- what byte i of each plane of v shows: the places before t that are not fit, and the places from t on that are not 0
-pub record Looked (m t : ℕ) (v : List ℕ) (i unfit spare : ℕ) : Type 0 where
-  pub fit : Shows (fitBefore m t v) i unfit
-  pub zero : Shows (zeroAfter m t v) i spare
-
--- two bytes that are 0 just where the first i bytes of each plane show nothing
-pub record Gathered (m t : ℕ) (v : List ℕ) (i unfit spare : ℕ) : Type 0 where
-  pub fit : eqb unfit 0 ≡ every (8 * i) (fitBefore m t v)
-  pub zero : eqb spare 0 ≡ every (8 * i) (zeroAfter m t v)

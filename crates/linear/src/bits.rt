@@ -1,7 +1,10 @@
-// Sums of bit strings modulo 2.
+// Sums of bit strings modulo 2: strings of 32 bytes by words, others byte by byte.
 ghost use mathlib.Core.Path.{_≡_};
+ghost use lib.Bits.{bitXor};
 ghost use lib.ListN.{length, getD};
 ghost use Rattle.linear.specs.Bits.{addBits};
+use crate::words;
+use crate::words::Four;
 
 // Byte `i` of `s`; past the end, 0.
 pub fn byte_at(s: &[u8], i: usize) -> u8
@@ -10,9 +13,20 @@ pub fn byte_at(s: &[u8], i: usize) -> u8
     if i < s.len() { s[i] } else { 0 }
 }
 
-// The sum of two bit strings modulo 2.
-#[no_mangle]
-pub extern "C" fn add_bits(a: &[u8], b: &[u8], out: &mut [u8])
+// The exclusive or of four words and four words.
+fn xor_four(x: Four, y: Four) -> Four
+    ensures { λ r. ⌜ (r .a ≡ bitXor (x .a) (y .a)) × (r .b ≡ bitXor (x .b) (y .b)) × (r .c ≡ bitXor (x .c) (y .c)) × (r .d ≡ bitXor (x .d) (y .d)) ⌝ }
+{
+    Four {
+        a: x.a ^ y.a,
+        b: x.b ^ y.b,
+        c: x.c ^ y.c,
+        d: x.d ^ y.d,
+    }
+}
+
+// The sum of two bit strings modulo 2, byte by byte.
+fn add_bytes(a: &[u8], b: &[u8], out: &mut [u8])
     ensures { λ _. ⌜ now (out .exit) ≡ addBits (length (now (out .entry))) (now (a .entry)) (now (b .entry)) ⌝ }
 {
     let mut i: usize = 0;
@@ -22,9 +36,24 @@ pub extern "C" fn add_bits(a: &[u8], b: &[u8], out: &mut [u8])
     }
 }
 
-// Adds a bit string to another in place, modulo 2.
+// The sum of two bit strings modulo 2.
 #[no_mangle]
-pub extern "C" fn add_bits_to(a: &[u8], out: &mut [u8])
+pub extern "C" fn add_bits(a: &[u8], b: &[u8], out: &mut [u8])
+    ensures { λ _. ⌜ now (out .exit) ≡ addBits (length (now (out .entry))) (now (a .entry)) (now (b .entry)) ⌝ }
+{
+    if out.len() == 32 && a.len() == 32 && b.len() == 32 {
+        words::put_four(
+            out,
+            0,
+            xor_four(words::four_words(a, 0), words::four_words(b, 0)),
+        );
+        return;
+    }
+    add_bytes(a, b, out);
+}
+
+// Adds a bit string to another in place, modulo 2, byte by byte.
+fn add_bytes_to(a: &[u8], out: &mut [u8])
     ensures { λ _. ⌜ now (out .exit) ≡ addBits (length (now (out .entry))) (now (out .entry)) (now (a .entry)) ⌝ }
 {
     let mut i: usize = 0;
@@ -32,4 +61,20 @@ pub extern "C" fn add_bits_to(a: &[u8], out: &mut [u8])
         out[i] = out[i] ^ byte_at(a, i);
         i += 1;
     }
+}
+
+// Adds a bit string to another in place, modulo 2.
+#[no_mangle]
+pub extern "C" fn add_bits_to(a: &[u8], out: &mut [u8])
+    ensures { λ _. ⌜ now (out .exit) ≡ addBits (length (now (out .entry))) (now (out .entry)) (now (a .entry)) ⌝ }
+{
+    if out.len() == 32 && a.len() == 32 {
+        words::put_four(
+            out,
+            0,
+            xor_four(words::four_words(out, 0), words::four_words(a, 0)),
+        );
+        return;
+    }
+    add_bytes_to(a, out);
 }

@@ -7,9 +7,14 @@ ghost use lib.ListN.{length, drop};
 ghost use Rattle.linear.specs.Tables.{sum, from, below};
 ghost use Rattle.linear.specs.Bits.{digit, byteOf};
 ghost use Rattle.linear.specs.Products.{bitRow, circulant, circulantProduct, rowProduct, rowDigit, matrixProduct};
-ghost use Rattle.linear.specs.Planes.{tritOf, Eight, planeTerm};
-use crate::trits::Planes;
+ghost use Rattle.linear.specs.Products.{tritTerm};
+ghost use Rattle.linear.specs.Planes.{tritOf, Run, planeTerm};
+use crate::lanes;
+use crate::lanes::Planes;
+use crate::lanes::Trits;
+use crate::turns;
 use crate::words;
+use crate::words::word;
 
 // Row 8p + q of the circulant matrix times `x`, modulo 2: the columns from 8p + q on, and those before.
 fn row_bit(key: &[u8], x: &[u8], n: usize, p: usize, q: usize) -> u8
@@ -37,9 +42,8 @@ fn circulant_rows(key: &[u8], x: &[u8], n: usize, p: usize) -> u8
     acc
 }
 
-// The circulant matrix of `key` times `label`, modulo 2.
-#[no_mangle]
-pub extern "C" fn circulant_product(key: &[u8], label: &[u8], out: &mut [u8])
+// The circulant matrix of `key` times `label`, modulo 2, row by row.
+fn circulant_bytes(key: &[u8], label: &[u8], out: &mut [u8])
     ensures { λ _. ⌜ now (out .exit) ≡ circulantProduct (length (now (out .entry))) (now (key .entry)) (now (label .entry)) ⌝ }
 {
     let n = out.len();
@@ -48,6 +52,18 @@ pub extern "C" fn circulant_product(key: &[u8], label: &[u8], out: &mut [u8])
         out[i] = circulant_rows(key, label, n, i);
         i += 1;
     }
+}
+
+// The circulant matrix of `key` times `label`, modulo 2.
+#[no_mangle]
+pub extern "C" fn circulant_product(key: &[u8], label: &[u8], out: &mut [u8])
+    ensures { λ _. ⌜ now (out .exit) ≡ circulantProduct (length (now (out .entry))) (now (key .entry)) (now (label .entry)) ⌝ }
+{
+    if out.len() == 32 && key.len() == 32 && label.len() == 32 {
+        words::put_four(out, 0, turns::product(key, label));
+        return;
+    }
+    circulant_bytes(key, label, out);
 }
 
 // The products of two digits modulo 3.
@@ -60,30 +76,12 @@ fn product(a: usize, b: usize) -> u8
     PRODUCTS[a][b]
 }
 
-// The places where a digit is 1, and those where it is 2.
-struct Digits {
-    one: u64,
-    two: u64,
-}
-
-// The products modulo 3 of trits of planes `x`, `u` and of planes `y`, `w`: not 0 where both are not, and 2 where one of them is.
-fn multiplied(x: u64, u: u64, y: u64, w: u64) -> Digits
-    ensures { λ r. ⌜ ((k : ℕ) → digit (r .one) k + 2 * digit (r .two) k ≡ tritOf x u k * tritOf y w k % 3) ⌝ }
-{
-    let some = (x ^ u) & (y ^ w);
-    let two = some & (u ^ w);
-    Digits {
-        one: some ^ two,
-        two: two,
-    }
-}
-
 // The digits added up, modulo 3.
-fn counted(d: Digits) -> u8
-    ensures { λ r. ⌜ r ≡ (sum 64 (digit (d .one)) + 2 * sum 64 (digit (d .two))) % 3 ⌝ }
+fn counted(d: Trits) -> u8
+    ensures { λ r. ⌜ r ≡ (sum 64 (digit (d .low)) + 2 * sum 64 (digit (d .high))) % 3 ⌝ }
 {
-    let ones = (u64::count_ones(d.one) % 3) as u8;
-    let twos = (u64::count_ones(d.two) % 3) as usize;
+    let ones = (u64::count_ones(d.low) % 3) as u8;
+    let twos = (u64::count_ones(d.high) % 3) as usize;
     (ones + product(2, twos)) % 3
 }
 
@@ -96,7 +94,7 @@ fn word_product(row: &[u8], m: usize, low: &[u8], high: &[u8], i: usize) -> u8
     let u = words::word_at(row, m + i);
     let y = words::word_at(low, i);
     let w = words::word_at(high, i);
-    counted(multiplied(x, u, y, w))
+    counted(lanes::multiply(x, u, y, w))
 }
 
 // A row times the trits of planes `low` and `high`, which end after `m` bytes, modulo 3.
@@ -162,7 +160,7 @@ fn first_row(rows: &[u8], v: &[u8], t: usize) -> u8
 
 // The first eight rows of a matrix of `t` rows, times `v`.
 fn eight_rows(rows: &[u8], v: &[u8], t: usize) -> Planes
-    ensures { λ r. ⌜ Eight (below t (rowDigit (length (now (v .entry)) / 2) (now (rows .entry)) (now (v .entry)))) 0 (r .low) (r .high) ⌝ }
+    ensures { λ r. ⌜ Run 8 (below t (rowDigit (length (now (v .entry)) / 2) (now (rows .entry)) (now (v .entry)))) 0 (r .low) (r .high) ⌝ }
 {
     let step = v.len() / 2 * 2;
     let mut at: usize = 0;
@@ -181,9 +179,71 @@ fn eight_rows(rows: &[u8], v: &[u8], t: usize) -> Planes
     Planes { low: lo, high: hi }
 }
 
-// The first `t` rows of a matrix times a vector, modulo 3. The vector's two planes are the halves of `v`, and a row has as many bytes.
-#[no_mangle]
-pub extern "C" fn matrix_product(rows: &[u8], v: &[u8], t: usize, out: &mut [u8])
+// What columns 8i to 8i + 63 of the row at byte `at` give with a vector of 64 bytes.
+fn row_word(rows: &[u8], v: &[u8], at: usize, i: usize) -> Trits
+    requires { ⌜ (at + 64 ≤ length (now rows)) × (64 ≤ length (now v)) × (i + 8 ≤ 32) ⌝ }
+    ensures { λ r. ⌜ ((k : ℕ) → k < 64 → tritOf (r .low) (r .high) k ≡ tritTerm 32 (drop at (now (rows .entry))) (now (v .entry)) (8 * i + k) % 3) ⌝ }
+{
+    lanes::multiply(
+        word(rows, at + i),
+        word(rows, at + 32 + i),
+        word(v, i),
+        word(v, 32 + i),
+    )
+}
+
+// The row at byte `at` times a vector of 64 bytes, modulo 3: the digits of four words are added in two, and the remainder comes last.
+fn row_digit(rows: &[u8], v: &[u8], at: usize) -> u8
+    requires { ⌜ (at + 64 ≤ length (now rows)) × (64 ≤ length (now v)) ⌝ }
+    ensures { λ r. ⌜ r ≡ rowProduct 32 (drop at (now (rows .entry))) (now (v .entry)) ⌝ }
+{
+    let s = lanes::add(row_word(rows, v, at, 0), row_word(rows, v, at, 16));
+    let t = lanes::add(row_word(rows, v, at, 8), row_word(rows, v, at, 24));
+    ((lanes::weight(s) + lanes::weight(t)) % 3) as u8
+}
+
+// The `t` rows from byte `at` on times a vector of 64 bytes, last row first.
+fn some_rows(rows: &[u8], v: &[u8], at: usize, t: usize) -> Planes
+    requires { ⌜ (t ≤ 8) × (at + 64 * t ≤ length (now rows)) × (64 ≤ length (now v)) ⌝ }
+    ensures { λ r. ⌜ Run 8 (below t (rowDigit 32 (drop at (now (rows .entry))) (now (v .entry)))) 0 (r .low) (r .high) ⌝ }
+{
+    let mut lo: u8 = 0;
+    let mut hi: u8 = 0;
+    let mut q = t;
+    while 0 < q {
+        q -= 1;
+        let d = row_digit(rows, v, at + 64 * q);
+        lo = 2 * lo + d % 2;
+        hi = 2 * hi + d / 2;
+    }
+    Planes { low: lo, high: hi }
+}
+
+// The first `t` rows of a matrix times a vector of 64 bytes, modulo 3.
+fn whole_rows(rows: &[u8], v: &[u8], t: usize, out: &mut [u8])
+    requires { ⌜ (64 * t ≤ length (now rows)) × (length (now v) ≡ 64) ⌝ }
+    ensures { λ _. ⌜
+        now (out .exit) ≡
+        matrixProduct (length (now (out .entry)) / 2) 32 t (now (rows .entry)) (now (v .entry))
+        ++ drop (2 * (length (now (out .entry)) / 2)) (now (out .entry))
+        ⌝ }
+{
+    let n = out.len() / 2;
+    let mut at: usize = 0;
+    let mut left = t;
+    let mut p: usize = 0;
+    while p < n {
+        let s = some_rows(rows, v, at, words::least(left, 8));
+        out[p] = s.low;
+        out[n + p] = s.high;
+        at = forward_eight(rows.len(), at, 64);
+        left = less(left, 8);
+        p += 1;
+    }
+}
+
+// The first `t` rows of a matrix times a vector, modulo 3, for any length of the vector.
+fn any_rows(rows: &[u8], v: &[u8], t: usize, out: &mut [u8])
     ensures { λ _. ⌜
         now (out .exit) ≡
         matrixProduct (length (now (out .entry)) / 2) (length (now (v .entry)) / 2) t (now (rows .entry)) (now (v .entry))
@@ -203,4 +263,20 @@ pub extern "C" fn matrix_product(rows: &[u8], v: &[u8], t: usize, out: &mut [u8]
         left = less(left, 8);
         p += 1;
     }
+}
+
+// The first `t` rows of a matrix times a vector, modulo 3. The vector's two planes are the halves of `v`, and a row has as many bytes.
+#[no_mangle]
+pub extern "C" fn matrix_product(rows: &[u8], v: &[u8], t: usize, out: &mut [u8])
+    ensures { λ _. ⌜
+        now (out .exit) ≡
+        matrixProduct (length (now (out .entry)) / 2) (length (now (v .entry)) / 2) t (now (rows .entry)) (now (v .entry))
+        ++ drop (2 * (length (now (out .entry)) / 2)) (now (out .entry))
+        ⌝ }
+{
+    if v.len() == 64 && t <= rows.len() / 64 {
+        whole_rows(rows, v, t, out);
+        return;
+    }
+    any_rows(rows, v, t, out);
 }

@@ -18,7 +18,7 @@ use Rattle.source.proofs.Pairs.{pair-lt}
 use Rattle.linear.specs.Tables.{from}
 use Rattle.linear.specs.Bits.{zeros, byteOf}
 use Rattle.linear.specs.Trits.{low, high}
-use Rattle.linear.specs.Planes.{Eight}
+use Rattle.linear.specs.Planes.{Run}
 use Rattle.linear.proofs.Digits.{number-ext}
 use Rattle.linear.proofs.Strings.{length-zeros}
 use Rattle.protocol.specs.Scheme.{layoutBytes}
@@ -155,7 +155,7 @@ reading-drew s t f b q l h e =
     }
 
 -- the planes of trits below 4, byte by byte
-pub planes-of : (t : List ℕ) → ((j : ℕ) → getD t j 0 < 4) → (i x y : ℕ) → x ≡ byteOf (planeBit t 1) i → y ≡ byteOf (planeBit t 2) i → Eight (tritOf t) i x y
+pub planes-of : (t : List ℕ) → ((j : ℕ) → getD t j 0 < 4) → (i x y : ℕ) → x ≡ byteOf (planeBit t 1) i → y ≡ byteOf (planeBit t 2) i → Run 8 (tritOf t) i x y
 planes-of t h i x y p q =
     record {
       low-is = p ∙ number-ext 8 (from (8 * i) (planeBit t 1)) (from (8 * i) (low (tritOf t))) (λ k l. omega arith);

@@ -1,40 +1,36 @@
--- `linear::bits::add_bits` meets its contract. The invariant of its loop: the first i bytes are those of the sum.
+-- `linear::bits::add_bits` meets its contract. The words of 32 bytes are those of the sum; other lengths go byte by byte.
 -- Assumes nothing.
-use Prim.Native.Nat.{_-_}
+use mathlib.Core.Path.{_≡_, _∙_}
 use native.Mathlib.Omega.{arith}
+use borrow.Author.Tests.{eqb-true}
 use borrow.Author.Needs.{needs}
 use lib.ListN.{length}
-use Rattle.linear.specs.Bits.{addBits, sumBit, byteOf, pack}
-use Rattle.linear.proofs.Filling.{Filling, filling-none, filling-more, filling-all}
-use Rattle.linear.proofs.Strings.{sum-byte}
+use Rattle.linear.specs.Bits.{addBits, sumBit}
+use Rattle.linear.proofs.Stores.{string-stored, quad-sum}
 use Rattle.linear.proofs.bits.add_bits.Statement.{statement}
 use Rattle.linear.proofs.bits.add_bits.Tie as tie
 
-abbrev Inv-loop : tie.InvT-loop
-Inv-loop a b out₀ i₀ out i = Filling (byteOf (sumBit a b)) i out₀ out
-
-abbrev μ-loop : tie.MeasureT-loop
-μ-loop a b out₀ i₀ out i = length out₀ - i
-
-loop-again : tie.Need-loop-again Inv-loop μ-loop
-loop-again c =
-    let at-loop = c .before .before .before in
-    let args = at-loop .before .before .before .before .args in
-    filling-more (at-loop .loop .inv) (omega arith)
-    (sum-byte (args .a .now) (args .b .now) (at-loop .loop .i) _ _ (c .before .byte-at .ensures) (c .byte-at2 .ensures) (c .before .byte-at .ok) (c .byte-at2 .ok))
+returns : tie.Need-returns
+unfolding addBits
+returns c =
+    let w = c .before .before .before in
+    let a = w .before .before .before .before .before .before .before .before .before .before .args in
+    let x = w .xor-four .ensures in
+    let e : length (a .out .now) ≡ 32 = omega arith in
+    rw e (c .before .before .put-four .ensures
+    ∙ string-stored (sumBit (a .a .now) (a .b .now)) _ _ _ _ _ (λ j. omega arith) e
+    (quad-sum (a .a .now) (a .b .now) 0 (w .before .before .four-words .ensures) (w .before .four-words2 .ensures) (x .0) (x .1) (x .2) (x .3)))
 
 pub add-bits-spec : {M : Type 1} → statement M
 add-bits-spec =
     tie.close
     (tie.spec
-    Inv-loop
-    μ-loop
-    (λ c. filling-none)
+    (λ c κs. omega (arith, eqb-true))
+    (λ c κs. omega (arith, eqb-true))
+    (λ c κs. omega (arith, eqb-true))
+    (λ c κs. omega (arith, eqb-true))
+    (λ c. search needs)
+    returns
     (λ c κs. search needs)
-    (λ c κs. search needs)
-    (λ c. omega arith)
-    (λ c. omega arith)
-    (λ c. omega arith)
-    loop-again
-    (λ c. c .before .loop .inv .long)
-    (λ c. unfold addBits pack in filling-all (c .before .loop .inv) (omega arith)))
+    (λ c. search needs)
+    (λ c. c .before .before .add-bytes .ensures))

@@ -1,39 +1,36 @@
--- `linear::bits::add_bits_to` meets its contract. The invariant of its loop: the first i bytes are those of the sum, and the others are as they were.
+-- `linear::bits::add_bits_to` meets its contract. The words of 32 bytes are those of the sum; other lengths go byte by byte.
 -- Assumes nothing.
-use Prim.Native.Nat.{_-_}
+use mathlib.Core.Path.{_≡_, _∙_}
 use native.Mathlib.Omega.{arith}
+use borrow.Author.Tests.{eqb-true}
+use borrow.Author.Needs.{needs}
 use lib.ListN.{length}
-use Rattle.linear.specs.Bits.{addBits, sumBit, byteOf, pack}
-use Rattle.linear.proofs.Filling.{Filling, filling-none, filling-more, filling-at, filling-all}
-use Rattle.linear.proofs.Strings.{sum-byte}
+use Rattle.linear.specs.Bits.{addBits, sumBit}
+use Rattle.linear.proofs.Stores.{string-stored, quad-sum}
 use Rattle.linear.proofs.bits.add_bits_to.Statement.{statement}
 use Rattle.linear.proofs.bits.add_bits_to.Tie as tie
 
-abbrev Inv-loop : tie.InvT-loop
-Inv-loop a out₀ i₀ out i = Filling (byteOf (sumBit out₀ a)) i out₀ out
-
-abbrev μ-loop : tie.MeasureT-loop
-μ-loop a out₀ i₀ out i = length out₀ - i
-
-loop-again : tie.Need-loop-again Inv-loop μ-loop
-loop-again c =
-    let l = c .before .before .before in
-    let a = l .before .before .before .args in
-    filling-more (l .loop .inv) (omega arith)
-    (sum-byte (a .out .now) (a .a .now) (l .loop .i) _ _ (filling-at (l .loop .inv)) (c .byte-at .ensures) (c .before .slice-known2 .given (l .loop .i) .fits) (c .byte-at .ok))
+returns : tie.Need-returns
+unfolding addBits
+returns c =
+    let w = c .before .before .before in
+    let a = w .before .before .before .before .before .before .before .before .before .args in
+    let x = w .xor-four .ensures in
+    let e : length (a .out .now) ≡ 32 = omega arith in
+    rw e (c .before .before .put-four .ensures
+    ∙ string-stored (sumBit (a .out .now) (a .a .now)) _ _ _ _ _ (λ j. omega arith) e
+    (quad-sum (a .out .now) (a .a .now) 0 (w .before .before .four-words .ensures) (w .before .four-words2 .ensures) (x .0) (x .1) (x .2) (x .3)))
 
 pub add-bits-to-spec : {M : Type 1} → statement M
 add-bits-to-spec =
     tie.close
     (tie.spec
-    Inv-loop
-    μ-loop
-    (λ c. filling-none)
-    (λ c. omega arith)
-    (λ c κs. omega arith)
-    (λ c. omega arith)
-    (λ c. omega arith)
-    (λ c. omega arith)
-    loop-again
-    (λ c. c .before .loop .inv .long)
-    (λ c. unfold addBits pack in filling-all (c .before .loop .inv) (omega arith)))
+    (λ c κs. omega (arith, eqb-true))
+    (λ c κs. omega (arith, eqb-true))
+    (λ c κs. omega (arith, eqb-true))
+    (λ c κs. omega (arith, eqb-true))
+    (λ c. search needs)
+    returns
+    (λ c κs. search needs)
+    (λ c. search needs)
+    (λ c. c .before .before .add-bytes-to .ensures))

@@ -1,33 +1,31 @@
--- `linear::products::circulant_product` meets its contract. The invariant of its loop: the first i bytes are those of the product.
+-- `linear::products::circulant_product` meets its contract. The words of 32 bytes are those of the product; other lengths go row by row.
 -- Assumes nothing.
-use Prim.Native.Nat.{_-_}
+use mathlib.Core.Path.{_≡_, _∙_}
 use native.Mathlib.Omega.{arith}
-use Rattle.linear.specs.Bits.{byteOf, pack}
+use borrow.Author.Tests.{eqb-true}
+use borrow.Author.Needs.{needs}
+use lib.ListN.{length}
 use Rattle.linear.specs.Products.{bitRow, bitProduct, circulant}
-use Rattle.linear.proofs.Filling.{Filling, filling-none, filling-more, filling-all}
+use Rattle.linear.proofs.Stores.{string-stored}
 use Rattle.linear.proofs.products.circulant_product.Statement.{statement}
 use Rattle.linear.proofs.products.circulant_product.Tie as tie
 
-abbrev Inv-loop : tie.InvT-loop
-Inv-loop key label out₀ n i₀ out i = Filling (byteOf (bitRow n (circulant n key) label)) i out₀ out
-
-abbrev μ-loop : tie.MeasureT-loop
-μ-loop key label out₀ n i₀ out i = n - i
-
-loop-again : tie.Need-loop-again Inv-loop μ-loop
-loop-again c = filling-more (c .before .before .loop .inv) (omega arith) (c .circulant-rows .ensures)
+returns : tie.Need-returns
+unfolding bitProduct
+returns c =
+    let a = c .before .before .before .before .before .before .before .before .before .before .before .args in
+    let e : length (a .out .now) ≡ 32 = omega arith in
+    rw e (c .before .before .put-four .ensures
+    ∙ string-stored (bitRow 32 (circulant 32 (a .key .now)) (a .label .now)) _ _ _ _ _ (λ j. omega arith) e (c .before .before .before .product .ensures))
 
 pub circulant-product-spec : {M : Type 1} → statement M
 circulant-product-spec =
     tie.close
     (tie.spec
-    Inv-loop
-    μ-loop
-    (λ c. filling-none)
-    (λ c κs. omega arith)
-    (λ c. omega arith)
-    (λ c. omega arith)
-    (λ c. omega arith)
-    loop-again
-    (λ c. c .before .loop .inv .long)
-    (λ c. unfold bitProduct pack in filling-all (c .before .loop .inv) (omega arith)))
+    (λ c κs. omega (arith, eqb-true))
+    (λ c κs. omega (arith, eqb-true))
+    (λ c. search needs)
+    returns
+    (λ c κs. search needs)
+    (λ c. search needs)
+    (λ c. c .before .before .circulant-bytes .ensures))

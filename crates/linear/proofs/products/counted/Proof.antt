@@ -12,8 +12,8 @@ use Rattle.linear.proofs.products.counted.Tie as tie
 returns : tie.Need-returns
 returns c =
     let a = c .before .before .before .args in
-    count-sum (ones (a .d .one)) (ones (a .d .two)) _ (c .product .ensures)
-    ∙ ap₂ (λ (x y : ℕ). (x + 2 * y) % 3) (ones-sum 64 (a .d .one) (search needs)) (ones-sum 64 (a .d .two) (search needs))
+    count-sum (ones (a .d .low)) (ones (a .d .high)) _ (c .product .ensures)
+    ∙ ap₂ (λ (x y : ℕ). (x + 2 * y) % 3) (ones-sum 64 (a .d .low) (search needs)) (ones-sum 64 (a .d .high) (search needs))
 
 pub counted-spec : {M : Type 1} → statement M
 counted-spec =

@@ -13,7 +13,7 @@ returns c =
     let a = f .before .before .before .before .before .args in
     c .counted .ensures
     ∙ word-sum (a .m) (a .row .now) (a .low .now) (a .high .now) (a .i) _ _ _ _ _ _ (f .before .word-at .ensures) (f .word-at2 .ensures) (l .before .word-at3 .ensures) (l .word-at4 .ensures)
-    (c .before .multiplied .ensures)
+    (c .before .multiply .ensures)
 
 pub word-product-spec : {M : Type 1} → statement M
 word-product-spec =

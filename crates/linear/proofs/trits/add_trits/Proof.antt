@@ -1,32 +1,36 @@
--- `linear::trits::add_trits` meets its contract. The invariant of its loop: the first i bytes of each plane are those of the sum.
+-- `linear::trits::add_trits` meets its contract. The words of 22 bytes are those of the result; other lengths go byte by byte.
 -- Assumes nothing.
-use Prim.Native.Nat.{_-_}
+use mathlib.Core.Path.{_≡_, sym, _∙_}
+use Prim.Native.Nat.{_/_}
 use native.Mathlib.Omega.{arith}
-use lib.ListN.{length-set}
+use borrow.Author.Tests.{eqb-true}
+use borrow.Author.Needs.{needs}
+use lib.ListN.{length}
 use Rattle.linear.specs.Trits.{sumTrit, addTrits}
-use Rattle.linear.proofs.Filling.{Planes, planes-none, planes-more, planes-all}
+use Rattle.linear.proofs.Stores.{code-stored, whole}
 use Rattle.linear.proofs.trits.add_trits.Statement.{statement}
 use Rattle.linear.proofs.trits.add_trits.Tie as tie
 
-abbrev Inv-loop : tie.InvT-loop
-Inv-loop a b out₀ m i₀ out i = Planes m (sumTrit m a b) i out₀ out
-
-abbrev μ-loop : tie.MeasureT-loop
-μ-loop a b out₀ m i₀ out i = m - i
+returns : tie.Need-returns
+unfolding addTrits
+returns c =
+    let w = c .before .before .before in
+    let a = w .before .before .before .before .before .before .before .before .before .args in
+    let n : length (a .out .now) ≡ 22 = w .before .before .before .before .before .if1 .taken in
+    let e : length (a .out .now) / 2 ≡ 11 = omega arith in
+    rw e (c .before .before .put-code .ensures
+    ∙ code-stored (sumTrit 11 (a .a .now) (a .b .now)) _ (λ j. omega arith) n (w .before .add-word .ensures) (w .add-word2 .ensures)
+    ∙ sym (whole 11 _ (a .out .now) (omega arith)))
 
 pub add-trits-spec : {M : Type 1} → statement M
 add-trits-spec =
     tie.close
     (tie.spec
-    Inv-loop
-    μ-loop
-    (λ c. planes-none (omega arith))
-    (λ c κs. omega arith)
-    (λ c. omega arith)
-    (λ c. omega arith)
-    (λ c. simp length-set (omega arith))
-    (λ c. omega arith)
-    (λ c. omega arith)
-    (λ c. planes-more (c .before .before .loop .inv) (omega arith) (c .add-eight .ensures))
-    (λ c. c .before .loop .inv .long)
-    (λ c. unfold addTrits in planes-all (c .before .loop .inv) (omega arith)))
+    (λ c κs. omega (arith, eqb-true))
+    (λ c κs. omega (arith, eqb-true))
+    (λ c κs. omega (arith, eqb-true))
+    (λ c. search needs)
+    returns
+    (λ c κs. search needs)
+    (λ c. search needs)
+    (λ c. c .before .before .add-planes .ensures))

@@ -1,23 +1,34 @@
--- `linear::trits::inner_eight` meets its contract. The planes that change places give r + ŵ × r, and what is added gives the rest.
+-- `linear::trits::inner_eight` meets its contract. The bytes hold the trits of eight places.
 -- Assumes nothing.
+use mathlib.Core.Path.{sym, ap, ap₂, _∙_}
+use mathlib.Core.Bool.{cond}
+use Prim.Native.Nat.{ℕ, _+_, _*_, _%_}
 use borrow.Author.Needs.{needs}
+use lib.Dec.{eqb}
+use Rattle.linear.specs.Bits.{digit}
 use Rattle.linear.specs.Trits.{innerTrit}
-use Rattle.linear.proofs.Planes.{eight, inner-trit}
+use Rattle.linear.proofs.Planes.{run-narrow, trit-byte}
+use Rattle.linear.proofs.Strings.{bit-at}
 use Rattle.linear.proofs.trits.inner_eight.Statement.{statement}
 use Rattle.linear.proofs.trits.inner_eight.Tie as tie
 
 returns : tie.Need-returns
 returns c =
-    let s = c .before .before in
-    let b = s .before in
-    let a = b .before .before .before .before .before .args in
-    eight (innerTrit (a .m) (a .side) (a .w .now) (a .r .now)) (a .i) _ _ _ _ _ _ (c .before .plane-sum .ok) (c .plane-sum2 .ok) (c .before .plane-sum .ensures) (c .plane-sum2 .ensures)
-    (inner-trit (a .m) (a .side) (a .w .now) (a .r .now) (a .i) _ _ _ _ (b .before .before .byte-at .ensures) (b .before .byte-at2 .ensures) (b .byte-at3 .ensures) (s .added .ensures))
+    let y = c .before .before .before .before in
+    let x = y .before .before in
+    let a = x .before .before .before .before .args in
+    run-narrow (innerTrit (a .m) (a .side) (a .w .now) (a .r .now)) (a .i) _ _ _ _ (c .narrow .ensures)
+    (λ k l. c .before .share .ensures k
+    ∙ sym (ap₂ (λ (b t : ℕ). (t + b * t + cond (eqb (a .side) 0) b 0) % 3)
+    (bit-at (a .w .now) (a .i) k l ∙ ap (λ (z : ℕ). digit z k) (sym (x .wide .ensures ∙ x .before .byte-at .ensures)))
+    (trit-byte (a .m) (a .r .now) (a .i) _ _ (y .wide2 .ensures ∙ y .before .byte-at2 .ensures) (c .before .before .wide3 .ensures ∙ c .before .before .before .byte-at3 .ensures) k l)))
 
 pub inner-eight-spec : {M : Type 1} → statement M
 inner-eight-spec =
     tie.close
     (tie.spec
+    (λ c κs. search needs)
+    (λ c κs. search needs)
     (λ c κs. search needs)
     (λ c κs. search needs)
     (λ c. search needs)

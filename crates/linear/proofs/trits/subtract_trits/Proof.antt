@@ -1,32 +1,38 @@
--- `linear::trits::subtract_trits` meets its contract. The invariant of its loop: the first i bytes of each plane are those of the difference.
+-- `linear::trits::subtract_trits` meets its contract. The words of 64 bytes are those of the result; other lengths go byte by byte.
 -- Assumes nothing.
-use Prim.Native.Nat.{_-_}
+use mathlib.Core.Path.{_≡_, sym, _∙_}
+use Prim.Native.Nat.{_/_}
 use native.Mathlib.Omega.{arith}
-use lib.ListN.{length-set}
+use borrow.Author.Tests.{eqb-true}
+use borrow.Author.Needs.{needs}
+use lib.ListN.{length}
 use Rattle.linear.specs.Trits.{differenceTrit, subtractTrits}
-use Rattle.linear.proofs.Filling.{Planes, planes-none, planes-more, planes-all}
+use Rattle.linear.proofs.Stores.{vector-stored, whole}
 use Rattle.linear.proofs.trits.subtract_trits.Statement.{statement}
 use Rattle.linear.proofs.trits.subtract_trits.Tie as tie
 
-abbrev Inv-loop : tie.InvT-loop
-Inv-loop w r out₀ m i₀ out i = Planes m (differenceTrit m w r) i out₀ out
-
-abbrev μ-loop : tie.MeasureT-loop
-μ-loop w r out₀ m i₀ out i = m - i
+returns : tie.Need-returns
+unfolding subtractTrits
+returns c =
+    let w = c .before .before .before in
+    let a = w .before .before .before .before .before .before .before .before .before .before .before .args in
+    let n : length (a .out .now) ≡ 64 = w .before .before .before .before .before .before .before .if1 .taken in
+    let e : length (a .out .now) / 2 ≡ 32 = omega arith in
+    rw e (c .before .before .put-vector .ensures
+    ∙ vector-stored (differenceTrit 32 (a .w .now) (a .r .now)) _ (λ j. omega arith) n (w .before .before .before .subtract-word .ensures) (w .before .before .subtract-word2 .ensures) (w .before .subtract-word3 .ensures) (w .subtract-word4 .ensures)
+    ∙ sym (whole 32 _ (a .out .now) (omega arith)))
 
 pub subtract-trits-spec : {M : Type 1} → statement M
 subtract-trits-spec =
     tie.close
     (tie.spec
-    Inv-loop
-    μ-loop
-    (λ c. planes-none (omega arith))
-    (λ c κs. omega arith)
-    (λ c. omega arith)
-    (λ c. omega arith)
-    (λ c. simp length-set (omega arith))
-    (λ c. omega arith)
-    (λ c. omega arith)
-    (λ c. planes-more (c .before .before .loop .inv) (omega arith) (c .subtract-eight .ensures))
-    (λ c. c .before .loop .inv .long)
-    (λ c. unfold subtractTrits in planes-all (c .before .loop .inv) (omega arith)))
+    (λ c κs. omega (arith, eqb-true))
+    (λ c κs. omega (arith, eqb-true))
+    (λ c κs. omega (arith, eqb-true))
+    (λ c κs. omega (arith, eqb-true))
+    (λ c κs. omega (arith, eqb-true))
+    (λ c. search needs)
+    returns
+    (λ c κs. search needs)
+    (λ c. search needs)
+    (λ c. c .before .before .subtract-planes .ensures))

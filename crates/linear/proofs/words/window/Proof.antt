@@ -23,7 +23,7 @@ returns-2 c =
     let w = c .before .before .before in
     let a = w .before .before .args in
     let b = bit (a .s .now) in
-    window-is (a .q) _ _ (from (8 * a .i) b) (omega arith) (λ j. bit-lt (a .s .now) (8 * a .i + j)) (w .word-at .ensures)
+    window-is 8 (a .q) _ _ (from (8 * a .i) b) (omega arith) (omega arith) (λ j. bit-lt (a .s .now) (8 * a .i + j)) (w .word-at .ensures)
     (byte-part (a .s .now) (a .i) 8 _ (c .wide .ensures ∙ c .before .byte-at .ensures) (omega (arith, c .before .byte-at .ok, c .wide .ensures)))
     ∙ number-ext 64 (from (a .q) (from (8 * a .i) b)) (from (8 * a .i + a .q) b) (λ k _. ap b (omega arith))
 

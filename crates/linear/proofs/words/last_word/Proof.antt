@@ -1,4 +1,4 @@
--- `linear::words::word_at` meets its contract. The invariant of its loop: `acc` has the first k bytes.
+-- `linear::words::last_word` meets its contract. The invariant of its loop: `acc` has the first k bytes.
 -- Assumes nothing.
 use mathlib.Core.Path.{_≡_, ap, _∙_}
 use Prim.Native.Nat.{ℕ, _+_, _-_, _*_, _≤_}
@@ -7,8 +7,8 @@ use Rattle.linear.specs.Tables.{from}
 use Rattle.linear.specs.Bits.{number, bit}
 use Rattle.linear.proofs.Strings.{bit-lt}
 use Rattle.linear.proofs.Numbers.{or-part, byte-part}
-use Rattle.linear.proofs.words.word_at.Statement.{statement}
-use Rattle.linear.proofs.words.word_at.Tie as tie
+use Rattle.linear.proofs.words.last_word.Statement.{statement}
+use Rattle.linear.proofs.words.last_word.Tie as tie
 
 abbrev Inv-loop : tie.InvT-loop
 Inv-loop s i acc₀ k₀ acc k = (k ≤ 8) × (acc ≡ number (8 * k) (from (8 * i) (bit s)))
@@ -36,8 +36,8 @@ returns c =
     let e : c .before .loop .k ≡ 8 = omega arith in
     rw e at (c .before .loop .inv .1)
 
-pub word-at-spec : {M : Type 1} → statement M
-word-at-spec =
+pub last-word-spec : {M : Type 1} → statement M
+last-word-spec =
     tie.close
     (tie.spec
     Inv-loop

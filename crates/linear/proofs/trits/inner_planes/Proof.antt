@@ -1,0 +1,32 @@
+-- `linear::trits::inner_planes` meets its contract. The invariant of its loop: the first i bytes of each plane are those of the share.
+-- Assumes nothing.
+use Prim.Native.Nat.{_-_}
+use native.Mathlib.Omega.{arith}
+use lib.ListN.{length-set}
+use Rattle.linear.specs.Trits.{innerTrit, innerShare}
+use Rattle.linear.proofs.Filling.{Planes, planes-none, planes-more, planes-all}
+use Rattle.linear.proofs.trits.inner_planes.Statement.{statement}
+use Rattle.linear.proofs.trits.inner_planes.Tie as tie
+
+abbrev Inv-loop : tie.InvT-loop
+Inv-loop side w r out₀ m i₀ out i = Planes m (innerTrit m side w r) i out₀ out
+
+abbrev μ-loop : tie.MeasureT-loop
+μ-loop side w r out₀ m i₀ out i = m - i
+
+pub inner-planes-spec : {M : Type 1} → statement M
+inner-planes-spec =
+    tie.close
+    (tie.spec
+    Inv-loop
+    μ-loop
+    (λ c. planes-none (omega arith))
+    (λ c κs. omega arith)
+    (λ c. omega arith)
+    (λ c. omega arith)
+    (λ c. simp length-set (omega arith))
+    (λ c. omega arith)
+    (λ c. omega arith)
+    (λ c. planes-more (c .before .before .loop .inv) (omega arith) (c .inner-eight .ensures))
+    (λ c. c .before .loop .inv .long)
+    (λ c. unfold innerShare in planes-all (c .before .loop .inv) (omega arith)))

@@ -1,0 +1,18 @@
+-- `linear::trits::summed` meets its contract. Remainders add.
+-- Assumes nothing.
+use borrow.Author.Needs.{needs}
+use Rattle.linear.proofs.Planes.{added-mod}
+use Rattle.linear.proofs.trits.summed.Statement.{statement}
+use Rattle.linear.proofs.trits.summed.Tie as tie
+
+returns : tie.Need-returns
+returns c k = added-mod _ _ _ _ _ (c .add .ensures k) (c .before .before .fit .ensures k) (c .before .fit2 .ensures k)
+
+pub summed-spec : {M : Type 1} → statement M
+summed-spec =
+    tie.close
+    (tie.spec
+    (λ c κs. search needs)
+    (λ c κs. search needs)
+    (λ c κs. search needs)
+    returns)

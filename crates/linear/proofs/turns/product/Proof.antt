@@ -1,0 +1,79 @@
+-- `linear::turns::product` meets its contract. The invariant of its loop: `x` is the label turned by q places, and `acc` the sum over the key bits 64w + r, r below q.
+-- Assumes nothing.
+use mathlib.Core.Path.{_≡_}
+use Prim.Native.Nat.{_-_, _≤_}
+use native.Mathlib.Omega.{arith}
+use borrow.Author.Needs.{needs}
+use Rattle.linear.specs.Planes.{Quad}
+use Rattle.linear.proofs.Circulant.{around, turnSum, quad-around, quad-next, quad-turned, key-masks, turn-more, quad-all, quad-none}
+use Rattle.linear.proofs.turns.product.Statement.{statement}
+use Rattle.linear.proofs.turns.product.Tie as tie
+
+abbrev Inv-loop : tie.InvT-loop
+Inv-loop key label k q₀ x₀ acc₀ q x acc =
+    (q ≤ 64) × Quad (around 32 label) q (x .a) (x .b) (x .c) (x .d) × Quad (turnSum key label q) 0 (acc .a) (acc .b) (acc .c) (acc .d)
+
+abbrev μ-loop : tie.MeasureT-loop
+μ-loop key label k q₀ x₀ acc₀ q x acc = 64 - q
+
+loop-holds : tie.Need-loop-holds Inv-loop μ-loop
+loop-holds c =
+    let a = c .before .before .before .before .args in
+    (omega arith, quad-around (a .label .now) (c .four-words2 .ensures), quad-none (a .key .now) (a .label .now))
+
+loop-again : tie.Need-loop-again Inv-loop μ-loop
+loop-again c =
+    let m = c .before .before .before .before .before .before .before .before in
+    let l = m .before .before in
+    let k = l .before .before in
+    let a = k .before .before .before .args in
+    let q = l .loop .q in
+    let x = l .loop .inv .1 in
+    let n1 = c .before .before .before .before .before .before .before .next .ensures in
+    let n2 = c .before .before .before .before .before .before .next2 .ensures in
+    let n3 = c .before .before .next3 .ensures in
+    let y = quad-next (a .label .now) x (n1 .0) (n1 .1) (n1 .2) (n1 .3) in
+    let z = quad-next (a .label .now) y (n2 .0) (n2 .1) (n2 .2) (n2 .3) in
+    let w = quad-next (a .label .now) z (n3 .0) (n3 .1) (n3 .2) (n3 .3) in
+    let t = c .turned .ensures in
+    let s = m .masks .result in
+    let b = key-masks (a .key .now) q (s .a) (s .b) (s .c) (s .d) (omega arith) (k .four-words .ensures) (m .masks .ensures) in (
+      omega arith,
+      quad-turned (a .label .now) x (t .0) (t .1) (t .2) (t .3),
+      record {
+        first = turn-more (a .key .now) (a .label .now) q 0 _ (s .a) (s .b) (s .c) (s .d) (omega arith) (c .before .before .before .before .before .add-masked .ok) (l .loop .inv .2 .first) x (c .before .before .before .before .before .add-masked .ensures) b;
+        second = turn-more (a .key .now) (a .label .now) q 64 _ (s .a) (s .b) (s .c) (s .d) (omega arith) (c .before .before .before .before .add-masked2 .ok) (l .loop .inv .2 .second) y (c .before .before .before .before .add-masked2 .ensures) b;
+        third = turn-more (a .key .now) (a .label .now) q 128 _ (s .a) (s .b) (s .c) (s .d) (omega arith) (c .before .before .before .add-masked3 .ok) (l .loop .inv .2 .third) z (c .before .before .before .add-masked3 .ensures) b;
+        fourth = turn-more (a .key .now) (a .label .now) q 192 _ (s .a) (s .b) (s .c) (s .d) (omega arith) (c .before .add-masked4 .ok) (l .loop .inv .2 .fourth) w (c .before .add-masked4 .ensures) b;
+      },
+    )
+
+returns : tie.Need-returns Inv-loop μ-loop
+returns c =
+    let l = c .before in
+    let a = l .before .before .before .before .before .args in
+    let e : l .loop .q ≡ 64 = omega arith in
+    quad-all (a .key .now) (a .label .now) (rw e at (l .loop .inv .2))
+
+pub product-spec : {M : Type 1} → statement M
+product-spec =
+    tie.close
+    (tie.spec
+    Inv-loop
+    μ-loop
+    (λ c κs. omega arith)
+    (λ c κs. omega arith)
+    loop-holds
+    (λ c κs. omega arith)
+    (λ c κs. search needs)
+    (λ c κs. search needs)
+    (λ c κs. search needs)
+    (λ c κs. search needs)
+    (λ c κs. search needs)
+    (λ c κs. search needs)
+    (λ c κs. search needs)
+    (λ c κs. search needs)
+    (λ c. omega arith)
+    (λ c. omega arith)
+    loop-again
+    returns)

@@ -1,0 +1,24 @@
+-- `linear::words::put_four` meets its contract. The four stores follow one another.
+-- Assumes nothing.
+use borrow.Author.Needs.{needs}
+use Rattle.linear.specs.Planes.{setFour}
+use Rattle.linear.proofs.words.put_four.Statement.{statement}
+use Rattle.linear.proofs.words.put_four.Tie as tie
+
+returns : tie.Need-returns
+unfolding setFour
+returns c = rw (c .before .before .put-word4 .ensures, c .before .before .before .before .before .before .put-word3 .ensures, c .before .before .before .before .before .before .before .before .before .before .put-word2 .ensures, c .before .before .before .before .before .before .before .before .before .before .before .before .before .before .put-word .ensures)
+
+pub put-four-spec : {M : Type 1} → statement M
+put-four-spec =
+    tie.close
+    (tie.spec
+    (λ c κs. search needs)
+    (λ c. search needs)
+    (λ c κs. search needs)
+    (λ c. search needs)
+    (λ c κs. search needs)
+    (λ c. search needs)
+    (λ c κs. search needs)
+    (λ c. search needs)
+    returns)
