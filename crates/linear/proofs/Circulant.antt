@@ -8,6 +8,7 @@ use native.Mathlib.Omega.{arith}
 use lib.Bits.{bitXor, bitAnd, bitOr}
 use lib.Dec.{eqb, eqb→eq}
 use lib.ListN.{take, length-take}
+use lib.Pow.{shr-shr}
 use Rattle.linear.specs.Tables.{from, sum, every}
 use Rattle.linear.specs.Bits.{digit, bit, number}
 use Rattle.linear.specs.Products.{bitTerm, bitRow, circulant}
@@ -190,6 +191,32 @@ added s t a b c d u v w z es ea eb ec ed = rw (es, ea, eb, ec, ed) (ap (λ (n : 
   where
     group : t % 2 + u + v + w + z ≡ t % 2 + (0 + u + v + w + z)
     group = omega arith
+
+-- four words, each moved on by q places
+pub record Moved (q a b c d ka kb kc kd : ℕ) : Type 0 where
+  pub first : ka ≡ a / 2 ^ q
+  pub second : kb ≡ b / 2 ^ q
+  pub third : kc ≡ c / 2 ^ q
+  pub fourth : kd ≡ d / 2 ^ q
+
+pub moved-none : {a b c d : ℕ} → Moved 0 a b c d a b c d
+moved-none = record { first = omega arith; second = omega arith; third = omega arith; fourth = omega arith }
+
+module _ {q a b c d ka kb kc kd : ℕ} (m : Moved q a b c d ka kb kc kd) where
+  pub moved-more : {p r s t : ℕ} → p ≡ ka / 2 ^ 1 → r ≡ kb / 2 ^ 1 → s ≡ kc / 2 ^ 1 → t ≡ kd / 2 ^ 1 → Moved (q + 1) a b c d p r s t
+  moved-more ep er es et =
+      record { first = more _ _ _ (m .first) ep; second = more _ _ _ (m .second) er; third = more _ _ _ (m .third) es; fourth = more _ _ _ (m .fourth) et }
+    where
+      more : (a k p : ℕ) → k ≡ a / 2 ^ q → p ≡ k / 2 ^ 1 → p ≡ a / 2 ^ (q + 1)
+      more a k p e f = f ∙ ap (λ (x : ℕ). x / 2 ^ 1) e ∙ shr-shr a q 1
+
+  -- masks of the lowest bits are those of bits q
+  pub moved-masks : (p r s t k : ℕ) → (digit p k ≡ digit ka 0) × (digit r k ≡ digit kb 0) × (digit s k ≡ digit kc 0) × (digit t k ≡ digit kd 0)
+      → (digit p k ≡ digit a q) × (digit r k ≡ digit b q) × (digit s k ≡ digit c q) × (digit t k ≡ digit d q)
+  moved-masks p r s t k e = (e .0 ∙ lowest _ _ (m .first), e .1 ∙ lowest _ _ (m .second), e .2 ∙ lowest _ _ (m .third), e .3 ∙ lowest _ _ (m .fourth))
+    where
+      lowest : (a k : ℕ) → k ≡ a / 2 ^ q → digit k 0 ≡ digit a q
+      lowest a k e = ap (λ (x : ℕ). digit x 0) e ∙ ap (λ (x : ℕ). x % 2) (shr-shr a q 0 ∙ ap (λ (n : ℕ). a / 2 ^ n) (add-zero q))
 
 -- the masks of the key's bits 64w + q
 pub key-masks : (key : List ℕ) (q ka kb kc kd : ℕ) {a b c d : ℕ} → q < 64 → Quad (bit key) 0 a b c d

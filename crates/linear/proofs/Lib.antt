@@ -5,6 +5,7 @@ pub mod Digits
 pub mod Strings
 pub mod Vectors
 pub mod Linearity
+pub mod Bytes
 -- The laws of what only the functions here do.
 pub mod Filling
 pub mod Numbers

@@ -96,6 +96,9 @@ module _ (t : ℕ) (g : ℕ → ℕ) where
   pub bits-small : (q x : ℕ) → ((i : ℕ) → g i < 2) → t ≤ 8 → 0 < q → x ≡ number (t - q) (from q g) → x < 128
   bits-small q x b h l e = omega (arith, number-lt (t - q) (from q g) (λ i. b (q + i)), pow-mono {i = t - q} {j = 7} (omega arith))
 
+  pub bits-byte : (x : ℕ) → ((i : ℕ) → g i < 2) → t ≤ 8 → x ≡ number t (from 0 g) → x < 256
+  bits-byte x b h e = omega (arith, number-lt t (from 0 g) (λ i. b (0 + i)), pow-mono {i = t} {j = 8} (omega arith))
+
   pub bits-all : (x : ℕ) → ((i : ℕ) → g (t + i) ≡ 0) → t ≤ 8 → x ≡ number t (from 0 g) → x ≡ number 8 (from 0 g)
   bits-all x z h e =
       let s : t + (8 - t) ≡ 8 = omega arith in

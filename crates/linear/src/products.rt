@@ -9,6 +9,7 @@ ghost use Rattle.linear.specs.Bits.{digit, byteOf};
 ghost use Rattle.linear.specs.Products.{bitRow, circulant, circulantProduct, rowProduct, rowDigit, matrixProduct};
 ghost use Rattle.linear.specs.Products.{tritTerm};
 ghost use Rattle.linear.specs.Planes.{tritOf, Run, planeTerm};
+use crate::bits::word_at;
 use crate::lanes;
 use crate::lanes::Planes;
 use crate::lanes::Trits;
@@ -87,13 +88,13 @@ fn counted(d: Trits) -> u8
 
 // What columns 8i to 8i + 63 of a row give with the trits of planes `low` and `high`, modulo 3.
 fn word_product(row: &[u8], m: usize, low: &[u8], high: &[u8], i: usize) -> u8
-    requires { ⌜ m + i + 8 < 2 ^ 64 ⌝ }
+    requires { ⌜ m + i < 2 ^ 64 ⌝ }
     ensures { λ r. ⌜ r ≡ sum 64 (from (8 * i) (planeTerm m (now (row .entry)) (now (low .entry)) (now (high .entry)))) % 3 ⌝ }
 {
-    let x = words::word_at(row, i);
-    let u = words::word_at(row, m + i);
-    let y = words::word_at(low, i);
-    let w = words::word_at(high, i);
+    let x = word_at(row, i);
+    let u = word_at(row, m + i);
+    let y = word_at(low, i);
+    let w = word_at(high, i);
     counted(lanes::multiply(x, u, y, w))
 }
 
@@ -193,30 +194,34 @@ fn row_word(rows: &[u8], v: &[u8], at: usize, i: usize) -> Trits
 }
 
 // The row at byte `at` times a vector of 64 bytes, modulo 3: the digits of four words are added in two, and the remainder comes last.
-fn row_digit(rows: &[u8], v: &[u8], at: usize) -> u8
+fn row_digit(rows: &[u8], v: &[u8], at: usize) -> u64
     requires { ⌜ (at + 64 ≤ length (now rows)) × (64 ≤ length (now v)) ⌝ }
     ensures { λ r. ⌜ r ≡ rowProduct 32 (drop at (now (rows .entry))) (now (v .entry)) ⌝ }
 {
     let s = lanes::add(row_word(rows, v, at, 0), row_word(rows, v, at, 16));
     let t = lanes::add(row_word(rows, v, at, 8), row_word(rows, v, at, 24));
-    ((lanes::weight(s) + lanes::weight(t)) % 3) as u8
+    (lanes::weight(s) + lanes::weight(t)) % 3
 }
 
-// The `t` rows from byte `at` on times a vector of 64 bytes, last row first.
+// The `t` rows from byte `at` on times a vector of 64 bytes, last row first. `all` has the digits' low bits plus twice their high
+// bits, so that only the high bits are taken apart in the loop.
 fn some_rows(rows: &[u8], v: &[u8], at: usize, t: usize) -> Planes
     requires { ⌜ (t ≤ 8) × (at + 64 * t ≤ length (now rows)) × (64 ≤ length (now v)) ⌝ }
     ensures { λ r. ⌜ Run 8 (below t (rowDigit 32 (drop at (now (rows .entry))) (now (v .entry)))) 0 (r .low) (r .high) ⌝ }
 {
-    let mut lo: u8 = 0;
-    let mut hi: u8 = 0;
+    let mut all: u64 = 0;
+    let mut hi: u64 = 0;
     let mut q = t;
     while 0 < q {
         q -= 1;
         let d = row_digit(rows, v, at + 64 * q);
-        lo = 2 * lo + d % 2;
+        all = 2 * all + d;
         hi = 2 * hi + d / 2;
     }
-    Planes { low: lo, high: hi }
+    Planes {
+        low: (all - 2 * hi) as u8,
+        high: hi as u8,
+    }
 }
 
 // The first `t` rows of a matrix times a vector of 64 bytes, modulo 3.

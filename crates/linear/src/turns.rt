@@ -1,6 +1,7 @@
 // The circulant product of 32 bytes. Bit i of it is the sum over k of key bit k times label bit i + k, counted around: the label turned
 // by k places, for each key bit k, under the bit's mask. A turn by 64w places is another order of the label's words, so there are 64
-// turns by one place, and four masks after each. No branch and no index depends on a bit.
+// turns by one place, and four masks after each, of the lowest bits of the key's words, which move on by one place too. No branch
+// and no index depends on a bit.
 ghost use mathlib.Core.Path.{_≡_};
 ghost use Prim.Native.Nat.{ℕ, _*_, _/_, _%_, _^_, _<_, _≤_};
 ghost use lib.ListN.{length};
@@ -45,27 +46,37 @@ fn next(x: Four) -> Four
     }
 }
 
-// Bit `q` of a word, in all places.
-fn mask(x: u64, q: usize) -> u64
-    requires { ⌜ q < 64 ⌝ }
-    ensures { λ r. ⌜ ((k : ℕ) → k < 64 → digit r k ≡ digit x q) ⌝ }
+// Each of four words one place on.
+fn shifted(x: Four) -> Four
+    ensures { λ r. ⌜ (r .a ≡ x .a / 2 ^ 1) × (r .b ≡ x .b / 2 ^ 1) × (r .c ≡ x .c / 2 ^ 1) × (r .d ≡ x .d / 2 ^ 1) ⌝ }
 {
-    ((x >> q) % 2) * 18446744073709551615
+    Four {
+        a: x.a >> 1,
+        b: x.b >> 1,
+        c: x.c >> 1,
+        d: x.d >> 1,
+    }
 }
 
-// Bit `q` of each of four words, in all places.
-fn masks(x: Four, q: usize) -> Four
-    requires { ⌜ q < 64 ⌝ }
+// The lowest bit of a word, in all places.
+fn mask(x: u64) -> u64
+    ensures { λ r. ⌜ ((k : ℕ) → k < 64 → digit r k ≡ digit x 0) ⌝ }
+{
+    (x % 2) * 18446744073709551615
+}
+
+// The lowest bit of each of four words, in all places.
+fn masks(x: Four) -> Four
     ensures { λ r. ⌜
         ((k : ℕ) → k < 64
-        → (digit (r .a) k ≡ digit (x .a) q) × (digit (r .b) k ≡ digit (x .b) q) × (digit (r .c) k ≡ digit (x .c) q) × (digit (r .d) k ≡ digit (x .d) q))
+        → (digit (r .a) k ≡ digit (x .a) 0) × (digit (r .b) k ≡ digit (x .b) 0) × (digit (r .c) k ≡ digit (x .c) 0) × (digit (r .d) k ≡ digit (x .d) 0))
         ⌝ }
 {
     Four {
-        a: mask(x.a, q),
-        b: mask(x.b, q),
-        c: mask(x.c, q),
-        d: mask(x.d, q),
+        a: mask(x.a),
+        b: mask(x.b),
+        c: mask(x.c),
+        d: mask(x.d),
     }
 }
 
@@ -81,7 +92,7 @@ pub fn product(key: &[u8], label: &[u8]) -> Four
     requires { ⌜ (32 ≤ length (now key)) × (32 ≤ length (now label)) ⌝ }
     ensures { λ r. ⌜ Quad (bitRow 32 (circulant 32 (now (key .entry))) (now (label .entry))) 0 (r .a) (r .b) (r .c) (r .d) ⌝ }
 {
-    let k = words::four_words(key, 0);
+    let mut k = words::four_words(key, 0);
     let mut q: usize = 0;
     let mut x = words::four_words(label, 0);
     let mut acc = Four {
@@ -91,7 +102,7 @@ pub fn product(key: &[u8], label: &[u8]) -> Four
         d: 0,
     };
     while q < 64 {
-        let m = masks(k, q);
+        let m = masks(k);
         let y = next(x);
         let z = next(y);
         acc = Four {
@@ -101,6 +112,7 @@ pub fn product(key: &[u8], label: &[u8]) -> Four
             d: add_masked(acc.d, next(z), m),
         };
         x = turned(x);
+        k = shifted(k);
         q += 1;
     }
     acc

@@ -6,6 +6,7 @@ ghost use Rattle.linear.specs.Tables.{sum, from};
 ghost use Rattle.linear.specs.Bits.{number, bit};
 ghost use Rattle.linear.specs.Planes.{shiftTerm, setHalf, setWord, Quad, setFour};
 use crate::bits::byte_at;
+use crate::bits::word_at;
 
 // The words of 32 bytes.
 pub struct Four {
@@ -59,7 +60,7 @@ pub fn word(s: &[u8], i: usize) -> u64
 }
 
 // The same near the end of `s` and past it, where bits are 0.
-fn last_word(s: &[u8], i: usize) -> u64
+pub fn last_word(s: &[u8], i: usize) -> u64
     requires { ⌜ i + 8 < 2 ^ 64 ⌝ }
     ensures { λ r. ⌜ r ≡ number 64 (from (8 * i) (bit (now (s .entry)))) ⌝ }
 {
@@ -70,18 +71,6 @@ fn last_word(s: &[u8], i: usize) -> u64
         k += 1;
     }
     acc
-}
-
-// Bits 8i to 8i + 63 of `s`; past its end, 0.
-pub fn word_at(s: &[u8], i: usize) -> u64
-    requires { ⌜ i + 8 < 2 ^ 64 ⌝ }
-    ensures { λ r. ⌜ r ≡ number 64 (from (8 * i) (bit (now (s .entry)))) ⌝ }
-{
-    if i + 8 <= s.len() {
-        word(s, i)
-    } else {
-        last_word(s, i)
-    }
 }
 
 // Four words of `s`, from byte `i` on.
@@ -138,7 +127,7 @@ pub fn put_four(out: &mut [u8], i: usize, x: Four)
 
 // Bits 8i + q to 8i + q + 63 of `s`.
 fn window(s: &[u8], i: usize, q: usize) -> u64
-    requires { ⌜ (i + 9 < 2 ^ 64) × (q < 8) ⌝ }
+    requires { ⌜ (i + 8 < 2 ^ 64) × (q < 8) ⌝ }
     ensures { λ r. ⌜ r ≡ number 64 (from (8 * i + q) (bit (now (s .entry)))) ⌝ }
 {
     let low = word_at(s, i);

@@ -4,9 +4,8 @@ use mathlib.Core.Path.{_≡_, refl, sym, ap, ap₂, _∙_}
 use mathlib.Core.List.{List, [], _∷_, _++_, append-assoc}
 use mathlib.Core.Bool.{false, and-false}
 use mathlib.Core.Logic.{_⊎_, inl, inr}
-use Prim.Native.Nat.{ℕ, zero, suc, _+_, _-_, _*_, _%_, _<_, _≤_, zero-le}
-use native.Mathlib.Nat.{mod-add-mod, add-mod-mod, le-refl, le-step}
-use native.Mathlib.Numerals.{add-one}
+use Prim.Native.Nat.{ℕ, zero, suc, _+_, _-_, _*_, _%_, _<_, _≤_}
+use native.Mathlib.Nat.{le-refl, le-step}
 use native.Mathlib.Omega.{arith}
 use borrow.Author.Tests.{ne-eqb}
 use lib.Dec.{eqb, lit<}
@@ -21,31 +20,6 @@ use Rattle.matrix.specs.File.{matrixB, block, fileByte}
 use Rattle.matrix.proofs.Parts.{Written, written-none, written-put, written-kept, written-all, length-part, getD-part, zeros-part, table-of}
 
 -- ---- sums
-
--- the sums a and b of i bytes, whose remainder is not taken yet
-pub record Deferred (s : List ℕ) (i a b : ℕ) : Type 0 where
-  pub first-is : a % 255 ≡ firstSum s i
-  pub second-is : b % 255 ≡ secondSum s i
-  pub first-small : a ≤ 255 * i
-  pub second-small : b ≤ 130050 * i
-
-module _ {s : List ℕ} where
-  -- where the loop begins
-  pub deferred-none : Deferred s 0 0 0
-  unfolding firstSum secondSum
-  deferred-none = record { first-is = refl; second-is = refl; first-small = zero-le; second-small = zero-le }
-
-  -- one byte more
-  pub deferred-more : {i a b x : ℕ} → Deferred s i a b → i < 510 → x < 256 → x ≡ getD s i 0 → Deferred s (i + 1) (a + x) (b + (a + x))
-  unfolding firstSum secondSum
-  deferred-more {i} {a} {b} {x} h l small e =
-      let f : (a + x) % 255 ≡ (firstSum s i + getD s i 0) % 255 = rw (← h .first-is, ← e, mod-add-mod) in
-      record {
-        first-is = rw add-one f;
-        second-is = rw (add-one, ← f, ← h .second-is, mod-add-mod, add-mod-mod);
-        first-small = omega arith;
-        second-small = omega arith;
-      }
 
 -- the sums of lists that agree below n are equal
 pub firstSum-ext : (s t : List ℕ) (n : ℕ) → ((i : ℕ) → i < n → getD s i 0 ≡ getD t i 0) → firstSum s n ≡ firstSum t n

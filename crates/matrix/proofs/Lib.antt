@@ -2,6 +2,7 @@
 pub mod Numbers
 pub mod Tests
 pub mod Parts
+pub mod Lanes
 pub mod Blocks
 pub mod Rows
 pub mod RoundTrip

@@ -1,3 +1,4 @@
 pub mod Number
 pub mod Block
+pub mod Lanes
 pub mod File

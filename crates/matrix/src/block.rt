@@ -7,7 +7,9 @@ ghost use lib.ListN.{length};
 ghost use lib.Seq.{paste};
 ghost use Rattle.linear.specs.Tables.{every};
 ghost use Rattle.matrix.specs.Block.{rowsIn, headByte, zeroByte, laidOut, check, checkHolds, blockOf};
+ghost use Rattle.matrix.specs.Lanes.{Folded, Weighted, InLanes, Deferred};
 ghost use Rattle.matrix.specs.File.{matrixB};
+use linear::bits::word_at;
 
 pub const LETTER: u8 = 0x42;
 
@@ -19,26 +21,92 @@ pub struct Check {
     pub second: u8,
 }
 
+// Every second byte of a word.
+const LANES: u64 = 0x00ff00ff00ff00ff;
+
+// Bytes of words added up in four lanes of 16 bits, modulo 255: `pairs` has those at places 0 and 1 of a word in its lowest lane,
+// those at 2 and 3 in the next, and so on, and `odd` the second of each pair. `ahead` adds up what `pairs` was before each word.
+struct Lanes {
+    pairs: u64,
+    odd: u64,
+    ahead: u64,
+}
+
+// The two sums, whose remainder is still to be taken.
+struct Totals {
+    first: u64,
+    second: u64,
+}
+
 fn both(a: bool, b: bool) -> bool
     ensures { λ r. ⌜ r ≡ (a && b) ⌝ }
 {
     a && b
 }
 
-fn wide(x: u8) -> u32
+fn wide(x: u8) -> u64
     ensures { λ r. ⌜ r ≡ x ⌝ }
 {
-    x as u32
+    x as u64
 }
 
-// The sums of bytes 0 to 509. They stay below 2^32, so one remainder at the end is enough.
+// A shorter number, equal modulo 255, since 2^32 is 1 there.
+fn folded(x: u64) -> u64
+    ensures { λ r. ⌜ Folded x r ⌝ }
+{
+    x % 4294967296 + (x >> 32)
+}
+
+// The lanes of `x`, counted 8, 6, 4 and 2 times.
+fn weighted(x: u64) -> u64
+    ensures { λ r. ⌜ Weighted x r ⌝ }
+{
+    8 * (x % 65536) + 6 * ((x >> 16) % 65536) + 4 * ((x >> 32) % 65536) + 2 * (x >> 48)
+}
+
+// Bytes 0 to 503 in lanes. No lane is ever full: 126 bytes are at most 32,130.
+fn in_lanes(block: &[u8]) -> Lanes
+    requires { ⌜ length (now block) ≡ 512 ⌝ }
+    ensures { λ r. ⌜ InLanes (now (block .entry)) 504 (r .pairs) (r .odd) (r .ahead) ⌝ }
+{
+    let mut pairs: u64 = 0;
+    let mut odd: u64 = 0;
+    let mut ahead: u64 = 0;
+    let mut i: usize = 0;
+    while i < 504 {
+        let x = word_at(block, i);
+        let y = (x >> 8) & LANES;
+        ahead += folded(pairs);
+        pairs += (x & LANES) + y;
+        odd += y;
+        i += 8;
+    }
+    Lanes { pairs, odd, ahead }
+}
+
+// The sums of bytes 0 to 503. The second has a byte once for each place from it on: 8, 7, 6, .. 1 times in its own word, and
+// eight times in each word after that, by `ahead`. The second of a pair counts once less than the first, and 254 is -1.
+// The length is written out so that no load tests it.
+fn word_sums(block: &[u8]) -> Totals
+    requires { ⌜ length (now block) ≡ 512 ⌝ }
+    ensures { λ r. ⌜ Deferred (now (block .entry)) 504 (r .first) (r .second) ⌝ }
+{
+    let t = in_lanes(&block[..512]);
+    Totals {
+        first: folded(t.pairs),
+        second: 8 * t.ahead + weighted(t.pairs) + 254 * folded(t.odd),
+    }
+}
+
+// The sums of bytes 0 to 509. They stay below 2^64, so one remainder at the end is enough.
 pub fn sums(block: &[u8]) -> Check
     requires { ⌜ length (now block) ≡ 512 ⌝ }
     ensures { λ r. ⌜ r .first ∷ r .second ∷ [] ≡ check (now (block .entry)) ⌝ }
 {
-    let mut first: u32 = 0;
-    let mut second: u32 = 0;
-    let mut i: usize = 0;
+    let t = word_sums(block);
+    let mut first = t.first;
+    let mut second = t.second;
+    let mut i: usize = 504;
     while i < 510 {
         first += wide(block[i]);
         second += first;

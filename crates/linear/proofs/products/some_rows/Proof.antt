@@ -1,69 +1,106 @@
--- `linear::products::some_rows` meets its contract. The invariant of its loop: `lo` and `hi` have the bits of the rows from q on.
+-- `linear::products::some_rows` meets its contract. The invariant of its loop: `hi` has the high bits of the rows from q on, and `all` their low bits and twice `hi`.
 -- Assumes nothing.
 use mathlib.Core.Path.{_≡_, ap, _∙_}
-use Prim.Native.Nat.{ℕ, _+_, _-_, _/_, _%_, _≤_}
+use mathlib.Core.List.{List}
+use Prim.Native.Nat.{ℕ, _+_, _-_, _*_, _/_, _%_, _<_, _≤_}
 use native.Mathlib.Omega.{arith}
 use lib.ListN.{drop}
 use Rattle.linear.specs.Tables.{from, below}
 use Rattle.linear.specs.Bits.{number}
 use Rattle.linear.specs.Trits.{low, high}
 use Rattle.linear.specs.Products.{rowDigit}
-use Rattle.linear.proofs.Matrix.{row-at, bits-more, bits-all, bits-small, below-past}
+use Rattle.linear.proofs.Matrix.{row-at, bits-more, bits-all, bits-small, bits-byte, below-past}
 use Rattle.linear.proofs.Linearity.{digit-below}
 use Rattle.linear.proofs.products.some_rows.Statement.{statement}
 use Rattle.linear.proofs.products.some_rows.Tie as tie
 
+-- the digits that the rows give
+abbrev digits : List ℕ → List ℕ → ℕ → ℕ → ℕ → ℕ
+digits rows v at t = below t (rowDigit 32 (drop at rows) v)
+
+record Held (rows v : List ℕ) (at t all hi q : ℕ) : Type 0 where
+  inside : q ≤ t
+  twice : 2 * hi ≤ all
+  low-is : all - 2 * hi ≡ number (t - q) (from q (low (digits rows v at t)))
+  high-is : hi ≡ number (t - q) (from q (high (digits rows v at t)))
+
 abbrev Inv-loop : tie.InvT-loop
-Inv-loop rows v at t lo₀ hi₀ q₀ lo hi q =
-    let f = below t (rowDigit 32 (drop at rows) v) in
-    (q ≤ t) × (lo ≡ number (t - q) (from q (low f))) × (hi ≡ number (t - q) (from q (high f)))
+Inv-loop rows v at t all₀ hi₀ q₀ all hi q = Held rows v at t all hi q
 
 abbrev μ-loop : tie.MeasureT-loop
-μ-loop rows v at t lo₀ hi₀ q₀ lo hi q = q
+μ-loop rows v at t all₀ hi₀ q₀ all hi q = q
+
+module _ {rows v : List ℕ} {at t all hi q : ℕ} (h : Held rows v at t all hi q) (small : t ≤ 8) where
+  high-bit : (i : ℕ) → high (digits rows v at t) i < 2
+  high-bit i = omega (arith, digit-below t 32 (drop at rows) v i)
+
+  -- before the last row, seven bits at most
+  seven : 0 < q → (all - 2 * hi < 128) × (hi < 128)
+  seven l = (
+    bits-small t (low (digits rows v at t)) q _ (λ i. omega arith) small l (h .low-is),
+    bits-small t (high (digits rows v at t)) q _ high-bit small l (h .high-is),
+  )
+
+  -- after it, a byte
+  byte : q ≡ 0 → (all - 2 * hi < 256) × (hi < 256)
+  byte z =
+      let n : t - 0 ≡ t = omega arith in (
+        bits-byte t (low (digits rows v at t)) _ (λ i. omega arith) small (rw (z, n) at (h .low-is)),
+        bits-byte t (high (digits rows v at t)) _ high-bit small (rw (z, n) at (h .high-is)),
+      )
+
+  -- one row before
+  more : {d : ℕ} → 0 < q → d ≡ digits rows v at t (q - 1) → Held rows v at t (2 * all + d) (2 * hi + d / 2) (q - 1)
+  more {d} l e =
+      let s : 2 * all + d - 2 * (2 * hi + d / 2) ≡ 2 * (all - 2 * hi) + d % 2 = omega (arith, h .twice) in
+      record {
+        inside = omega (arith, h .inside);
+        twice = omega (arith, h .twice);
+        low-is = s ∙ bits-more t (low (digits rows v at t)) q _ _ l (h .inside) (h .low-is) (ap (λ (x : ℕ). x % 2) e);
+        high-is = bits-more t (high (digits rows v at t)) q _ _ l (h .inside) (h .high-is) (ap (λ (x : ℕ). x / 2) e);
+      }
 
 loop-holds : tie.Need-loop-holds Inv-loop μ-loop
 unfolding number
 loop-holds c =
     let e : c .before .before .args .t - c .before .before .args .t ≡ 0 = omega arith in
-    (omega arith, rw e, rw e)
+    record { inside = omega arith; twice = omega arith; low-is = rw e; high-is = rw e }
 
-mul-lo : tie.Need-mul-lo Inv-loop μ-loop
-mul-lo c =
+mul-all : tie.Need-mul-all Inv-loop μ-loop
+mul-all c = let l = c .before .before in omega (arith, seven (l .loop .inv) (omega arith) (omega arith) .0, seven (l .loop .inv) (omega arith) (omega arith) .1)
+
+add-all : tie.Need-add-all Inv-loop μ-loop
+add-all c =
     let l = c .before .before in
-    let a = l .before .before .before .args in
-    let f = below (a .t) (rowDigit 32 (drop (a .at) (a .rows .now)) (a .v .now)) in
-    omega (arith, bits-small (a .t) (low f) (l .loop .q) (l .loop .lo) (λ i. omega arith) (omega arith) (omega arith) (l .loop .inv .1))
+    omega (arith, c .row-digit .ensures, seven (l .loop .inv) (omega arith) (omega arith) .0, seven (l .loop .inv) (omega arith) (omega arith) .1)
 
 mul-hi : tie.Need-mul-hi Inv-loop μ-loop
-mul-hi c =
-    let l = c .before .before in
-    let a = l .before .before .before .args in
-    let f = below (a .t) (rowDigit 32 (drop (a .at) (a .rows .now)) (a .v .now)) in
-    omega (arith, bits-small (a .t) (high f) (l .loop .q) (l .loop .hi) (λ i. omega (arith, digit-below (a .t) 32 (drop (a .at) (a .rows .now)) (a .v .now) i)) (omega arith) (omega arith) (l .loop .inv .2))
+mul-hi c = let l = c .before .before in omega (arith, seven (l .loop .inv) (omega arith) (omega arith) .1)
 
 loop-again : tie.Need-loop-again Inv-loop μ-loop
 loop-again c =
     let l = c .before .before in
     let a = l .before .before .before .args in
-    let f = below (a .t) (rowDigit 32 (drop (a .at) (a .rows .now)) (a .v .now)) in
-    let q = l .loop .q in
-    let e : c .row-digit .result ≡ f (q - 1) = c .row-digit .ensures ∙ row-at (a .t) (a .at) (a .rows .now) (a .v .now) (q - 1) (omega arith) in (
-      omega arith,
-      bits-more (a .t) (low f) q _ _ (omega arith) (omega arith) (l .loop .inv .1) (ap (λ (d : ℕ). d % 2) e),
-      bits-more (a .t) (high f) q _ _ (omega arith) (omega arith) (l .loop .inv .2) (ap (λ (d : ℕ). d / 2) e),
-    )
+    more (l .loop .inv) (omega arith) (omega arith)
+    (c .row-digit .ensures ∙ row-at (a .t) (a .at) (a .rows .now) (a .v .now) (l .loop .q - 1) (omega arith))
+
+mul-t14 : tie.Need-mul-t14 Inv-loop μ-loop
+mul-t14 c = let l = c .before in omega (arith, byte (l .loop .inv) (omega arith) (omega arith) .1)
+
+cast-t16 : tie.Need-cast-t16 Inv-loop μ-loop
+cast-t16 c = let l = c .before in omega (arith, byte (l .loop .inv) (omega arith) (omega arith) .0)
 
 returns : tie.Need-returns Inv-loop μ-loop
 returns c =
     let l = c .before in
     let a = l .before .before .before .args in
-    let f = below (a .t) (rowDigit 32 (drop (a .at) (a .rows .now)) (a .v .now)) in
+    let f = digits (a .rows .now) (a .v .now) (a .at) (a .t) in
     let past : (i : ℕ) → f (a .t + i) ≡ 0 = below-past (a .t) (rowDigit 32 (drop (a .at) (a .rows .now)) (a .v .now)) in
     let q : l .loop .q ≡ 0 = omega arith in
     let n : a .t - 0 ≡ a .t = omega arith in
     record {
-      low-is = bits-all (a .t) (low f) _ (λ i. ap (λ (d : ℕ). d % 2) (past i)) (omega arith) (rw (q, n) at (l .loop .inv .1));
-      high-is = bits-all (a .t) (high f) _ (λ i. ap (λ (d : ℕ). d / 2) (past i)) (omega arith) (rw (q, n) at (l .loop .inv .2));
+      low-is = bits-all (a .t) (low f) _ (λ i. ap (λ (d : ℕ). d % 2) (past i)) (omega arith) (rw (q, n) at (l .loop .inv .low-is));
+      high-is = bits-all (a .t) (high f) _ (λ i. ap (λ (d : ℕ). d / 2) (past i)) (omega arith) (rw (q, n) at (l .loop .inv .high-is));
     }
 
 pub some-rows-spec : {M : Type 1} → statement M
@@ -77,10 +114,14 @@ some-rows-spec =
     (λ c. omega arith)
     (λ c. omega arith)
     (λ c κs. omega arith)
-    mul-lo
-    (λ c. omega (arith, mul-lo c))
+    mul-all
+    add-all
     mul-hi
     (λ c. omega (arith, mul-hi c, c .row-digit .ensures))
     (λ c. omega arith)
     loop-again
+    mul-t14
+    (λ c. omega (arith, c .before .loop .inv .twice))
+    cast-t16
+    (λ c. let l = c .before in omega (arith, byte (l .loop .inv) (omega arith) (omega arith) .1))
     returns)

@@ -1,28 +1,30 @@
--- `linear::turns::product` meets its contract. The invariant of its loop: `x` is the label turned by q places, and `acc` the sum over the key bits 64w + r, r below q.
+-- `linear::turns::product` meets its contract. The invariant of its loop: `k` are the key's words moved on by q places, `x` is the label turned by as many, and `acc` the sum over the key bits 64w + r, r below q.
 -- Assumes nothing.
 use mathlib.Core.Path.{_≡_}
 use Prim.Native.Nat.{_-_, _≤_}
 use native.Mathlib.Omega.{arith}
 use borrow.Author.Needs.{needs}
 use Rattle.linear.specs.Planes.{Quad}
-use Rattle.linear.proofs.Circulant.{around, turnSum, quad-around, quad-next, quad-turned, key-masks, turn-more, quad-all, quad-none}
+use Rattle.linear.proofs.Circulant.{around, turnSum, quad-around, quad-next, quad-turned, key-masks, turn-more, quad-all, quad-none, Moved, moved-none, moved-more, moved-masks}
 use Rattle.linear.proofs.turns.product.Statement.{statement}
 use Rattle.linear.proofs.turns.product.Tie as tie
 
 abbrev Inv-loop : tie.InvT-loop
-Inv-loop key label k q₀ x₀ acc₀ q x acc =
+Inv-loop key label k₀ q₀ x₀ acc₀ k q x acc =
     (q ≤ 64) × Quad (around 32 label) q (x .a) (x .b) (x .c) (x .d) × Quad (turnSum key label q) 0 (acc .a) (acc .b) (acc .c) (acc .d)
+    × Moved q (k₀ .a) (k₀ .b) (k₀ .c) (k₀ .d) (k .a) (k .b) (k .c) (k .d)
 
 abbrev μ-loop : tie.MeasureT-loop
-μ-loop key label k q₀ x₀ acc₀ q x acc = 64 - q
+μ-loop key label k₀ q₀ x₀ acc₀ k q x acc = 64 - q
 
 loop-holds : tie.Need-loop-holds Inv-loop μ-loop
 loop-holds c =
     let a = c .before .before .before .before .args in
-    (omega arith, quad-around (a .label .now) (c .four-words2 .ensures), quad-none (a .key .now) (a .label .now))
+    (omega arith, quad-around (a .label .now) (c .four-words2 .ensures), quad-none (a .key .now) (a .label .now), moved-none)
 
 loop-again : tie.Need-loop-again Inv-loop μ-loop
-loop-again c =
+loop-again d =
+    let c = d .before in
     let m = c .before .before .before .before .before .before .before .before in
     let l = m .before .before in
     let k = l .before .before in
@@ -36,8 +38,10 @@ loop-again c =
     let z = quad-next (a .label .now) y (n2 .0) (n2 .1) (n2 .2) (n2 .3) in
     let w = quad-next (a .label .now) z (n3 .0) (n3 .1) (n3 .2) (n3 .3) in
     let t = c .turned .ensures in
+    let h = d .shifted .ensures in
     let s = m .masks .result in
-    let b = key-masks (a .key .now) q (s .a) (s .b) (s .c) (s .d) (omega arith) (k .four-words .ensures) (m .masks .ensures) in (
+    let b = key-masks (a .key .now) q (s .a) (s .b) (s .c) (s .d) (omega arith) (k .four-words .ensures)
+    (λ j h. moved-masks (l .loop .inv .3) (s .a) (s .b) (s .c) (s .d) j (m .masks .ensures j h)) in (
       omega arith,
       quad-turned (a .label .now) x (t .0) (t .1) (t .2) (t .3),
       record {
@@ -46,6 +50,7 @@ loop-again c =
         third = turn-more (a .key .now) (a .label .now) q 128 _ (s .a) (s .b) (s .c) (s .d) (omega arith) (c .before .before .before .add-masked3 .ok) (l .loop .inv .2 .third) z (c .before .before .before .add-masked3 .ensures) b;
         fourth = turn-more (a .key .now) (a .label .now) q 192 _ (s .a) (s .b) (s .c) (s .d) (omega arith) (c .before .add-masked4 .ok) (l .loop .inv .2 .fourth) w (c .before .add-masked4 .ensures) b;
       },
+      moved-more (l .loop .inv .3) (h .0) (h .1) (h .2) (h .3),
     )
 
 returns : tie.Need-returns Inv-loop μ-loop
@@ -65,6 +70,7 @@ product-spec =
     (λ c κs. omega arith)
     loop-holds
     (λ c κs. omega arith)
+    (λ c κs. search needs)
     (λ c κs. search needs)
     (λ c κs. search needs)
     (λ c κs. search needs)

@@ -5,7 +5,8 @@ use mathlib.Core.List.{[], _∷_}
 use Prim.Native.Nat.{ℕ, _-_, _≤_}
 use native.Mathlib.Omega.{arith}
 use Rattle.matrix.specs.Block.{check}
-use Rattle.matrix.proofs.Blocks.{Deferred, deferred-none, deferred-more}
+use Rattle.matrix.specs.Lanes.{Deferred}
+use Rattle.matrix.proofs.Lanes.{deferred-more}
 use Rattle.matrix.proofs.block.sums.Statement.{statement}
 use Rattle.matrix.proofs.block.sums.Tie as tie
 
@@ -24,7 +25,7 @@ returns : tie.Need-returns Inv-loop μ-loop
 unfolding check
 returns c =
     let e : c .before .loop .i ≡ 510 = omega arith in
-    let h = rw e at (c .before .loop .inv .1) in
+    let h = rw e at (c .before .loop .inv .1 .sums) in
     ap₂ (λ (x y : ℕ). x ∷ y ∷ []) (h .first-is) (h .second-is)
 
 pub sums-spec : {M : Type 1} → statement M
@@ -33,7 +34,8 @@ sums-spec =
     (tie.spec
     Inv-loop
     μ-loop
-    (λ c. (omega arith, deferred-none))
+    (λ c κs. omega arith)
+    (λ c. (omega arith, c .word-sums .ensures))
     (λ c. omega arith)
     (λ c κs. omega arith)
     (λ c. omega (arith, c .before .shared-slice-known2 .given (c .before .before .before .loop .i)))
