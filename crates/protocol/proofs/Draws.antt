@@ -155,9 +155,9 @@ reading-drew s t f b q l h e =
     }
 
 -- the planes of trits below 4, byte by byte
-pub planes-of : (t : List ℕ) → ((j : ℕ) → getD t j 0 < 4) → (i x y : ℕ) → x ≡ byteOf (planeBit t 1) i → y ≡ byteOf (planeBit t 2) i → Run 8 (tritOf t) i x y
+pub planes-of : (t : List ℕ) → ((j : ℕ) → getD t j 0 < 4) → (i x y : ℕ) → x ≡ byteOf (planeBit t 0) i → y ≡ byteOf (planeBit t 1) i → Run 8 (tritOf t) i x y
 planes-of t h i x y p q =
     record {
-      low-is = p ∙ number-ext 8 (from (8 * i) (planeBit t 1)) (from (8 * i) (low (tritOf t))) (λ k l. omega arith);
-      high-is = q ∙ number-ext 8 (from (8 * i) (planeBit t 2)) (from (8 * i) (high (tritOf t))) (λ k l. omega (arith, h (8 * i + k)));
+      low-is = p ∙ number-ext 8 (from (8 * i) (planeBit t 0)) (from (8 * i) (low (tritOf t))) (λ k l. omega arith);
+      high-is = q ∙ number-ext 8 (from (8 * i) (planeBit t 1)) (from (8 * i) (high (tritOf t))) (λ k l. omega (arith, h (8 * i + k)));
     }

@@ -1,19 +1,18 @@
 -- A state that is written reads back; and the calls over a slice by its length.
 -- Assumes nothing.
-use mathlib.Core.Path.{_≡_, refl, sym, ap, _∙_}
+use mathlib.Core.Path.{_≡_, sym, ap, _∙_}
 use mathlib.Core.List.{List, [], _∷_, _++_}
-use mathlib.Core.Bool.{Bool, cond, not}
 use Prim.Native.Nat.{ℕ}
 use borrow.Author.Tests.{eq-eqb, ne-eqb}
-use lib.Dec.{eqb}
-use lib.ListN.{length, getD}
+use lib.ListN.{length, getD, drop}
 use Rattle.matrix.specs.Number.{first}
 use Rattle.protocol.specs.declared.state.UnitState.{UnitState}
 use Rattle.protocol.specs.Scheme.{field, concat}
 use Rattle.protocol.specs.Base.{base}
 use Rattle.protocol.specs.Frame.{terms, header, frame}
-use Rattle.protocol.specs.Unit.{state, beginNumber, begin}
+use Rattle.protocol.specs.Unit.{state, begin, Meets}
 use Rattle.protocol.specs.Interface.{holdingsLayout, encodeState, decodeState, Sized, heldStep, pairBeginNumber, pairBeginState, pairStepNumber, pairStepState, pairStepWritten}
+use Rattle.protocol.specs.Exchange.{HeldMeets}
 use Rattle.protocol.proofs.Layouts.{Laid, field-concat}
 use Rattle.protocol.proofs.StepLaws.{session-back}
 
@@ -74,3 +73,22 @@ module _ (s : List ℕ) (h : length s ≡ 262) where
     pub step-moved : heldStep s f file n .result ≡ 0 → encodeState (heldStep s f file n .next) ≡ pairStepState s f file n
     unfolding pairStepState
     step-moved z = rw (← step-number, eq-eqb (heldStep s f file n .result) 0 z)
+
+  -- what a step's code shows of the call, where it is refused and where it moves the unit
+  module _ (f file old : List ℕ) {result written : ℕ} {next : UnitState} {new : List ℕ}
+      (m : Meets (heldStep s f file (length old)) result written next old new) where
+    shown : (s′ : List ℕ) → s′ ≡ pairStepState s f file (length old) → HeldMeets s f file old result s′ new written
+    shown s′ e =
+        let w = step-written f file (length old) in
+        record {
+          result-is = m .result-is ∙ step-number f file (length old);
+          state-is = e;
+          output-is = m .output-is ∙ ap (λ (x : List ℕ). x ++ drop (length x) old) w;
+          count-is = m .written-is ∙ ap length w;
+        }
+
+    pub call-refused : (result ≡ 0 → ⊥) → HeldMeets s f file old result s new written
+    call-refused z = shown s (step-kept f file (length old) (λ e. z (m .result-is ∙ e)))
+
+    pub call-moved : result ≡ 0 → (s′ : List ℕ) → s′ ≡ encodeState next → HeldMeets s f file old result s′ new written
+    call-moved z s′ e = shown s′ (e ∙ ap encodeState (m .next-is) ∙ step-moved f file (length old) (sym (m .result-is) ∙ z))

@@ -2,7 +2,9 @@
 use Prim.Native.Nat.{ℕ, _+_, _*_, _%_, _<_}
 use mathlib.Core.Path.{_≡_, refl, sym, ap, ap₂, _∙_}
 use mathlib.Core.List.{List}
+use mathlib.Core.Bool.{Bool, true, false, cond}
 use native.Mathlib.Omega.{arith}
+use lib.Dec.{eqb}
 use Rattle.linear.specs.Bits.{Bytes, bit, addBits}
 use Rattle.linear.specs.Trits.{trit, subtractTrits, bitTrits, addTrits, innerShare}
 use Rattle.linear.specs.Products.{planeBytes, Bilinear}
@@ -41,6 +43,34 @@ module _ (S : Scheme) (a : Inputs) (tape : List ℕ) where
   unfolding mask maskOf
   bytes-mask side0 = bytes-add (S .innerBytes) _ _
   bytes-mask side1 = bytes-add (S .innerBytes) _ _
+
+-- ---- two products make ŵi
+
+-- the last term of a sum, moved to the first
+last-first : (n : ℕ) (a b c d : List ℕ) → addBits n (addBits n (addBits n a d) b) c ≡ addBits n (addBits n (addBits n a b) c) d
+last-first n a b c d = add-ext n (addBits n (addBits n a d) b) c (addBits n (addBits n a b) c) d (λ j l. simp bitwise (omega arith))
+
+-- side 0's K̂ × x̃0 and K̂ × x̂ are K̂ × (x̃0 + x̂)
+module _ (S : Scheme) (L : Linear S) (file : List ℕ) where
+  abbrev times : List ℕ → List ℕ → List ℕ
+  times = S .product file
+
+  infixl 70 _+₂_
+  abbrev _+₂_ : List ℕ → List ℕ → List ℕ
+  u +₂ v = addBits (S .innerBytes) u v
+
+  pub mask-of-two : (side : ℕ) (K̂ x̂ K̃ x̃ z : List ℕ)
+      → times K̂ (cond (eqb side 0) (addBits (S .keyBytes) x̃ x̂) x̃) +₂ times K̃ x̂ +₂ z ≡ maskOf S file side K̂ x̂ K̃ x̃ z
+  unfolding maskOf
+  mask-of-two side K̂ x̂ K̃ x̃ z = pick (eqb side 0)
+    where
+      pick : (b : Bool)
+          → times K̂ (cond b (addBits (S .keyBytes) x̃ x̂) x̃) +₂ times K̃ x̂ +₂ z
+          ≡ cond b (times K̂ x̃ +₂ times K̃ x̂ +₂ z +₂ times K̂ x̂) (times K̂ x̃ +₂ times K̃ x̂ +₂ z)
+      pick true =
+          ap (λ (p : List ℕ). p +₂ times K̃ x̂ +₂ z) (L .bilinear file .right K̂ x̃ x̂)
+          ∙ last-first (S .innerBytes) (times K̂ x̃) (times K̃ x̂) z (times K̂ x̂)
+      pick false = refl
 
 -- ---- ŵ is w under its mask
 

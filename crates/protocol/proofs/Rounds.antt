@@ -1,43 +1,48 @@
--- The six steps of the program's run are those of a run in order, and end in the code.
+-- The six steps of the program's run are those of a run in order, the last two by the rows of the file, and end in the code.
 -- Assumes nothing.
 use mathlib.Core.Path.{_≡_, refl, sym, ap, _∙_}
-use mathlib.Core.List.{List, [], _∷_, _++_, append-nil}
-use mathlib.Core.Bool.{Bool, true, false, cond, not, _||_}
-use Prim.Native.Nat.{ℕ, zero, suc, _+_, _<_, _≤_}
+use mathlib.Core.List.{List, [], _++_, append-nil}
+use Prim.Native.Nat.{ℕ, suc, _+_, _<_, _≤_}
 use native.Mathlib.Omega.{arith}
-use borrow.Author.Tests.{eq-eqb, le-ltb}
-use lib.Dec.{ltb, eqb, lit<, lit≤}
-use lib.ListN.{length, getD, take, drop, length-append, length-take, length-drop}
-use lib.Seq.{take-at, drop-at, take-all, length-take-le, take-append-le}
+use borrow.Author.Tests.{eq-eqb}
+use lib.Dec.{lit<, lit≤}
+use lib.ListN.{length, getD, take, drop, length-append}
+use lib.Seq.{take-at, drop-at, take-all}
 use Rattle.linear.specs.Bits.{Bytes, zeros}
 use Rattle.linear.specs.Trits.{fitTrits}
 use Rattle.linear.proofs.Strings.{bytes-slice, bytes-add, bytes-append}
-use Rattle.matrix.specs.Number.{_when_, first, output}
+use Rattle.matrix.specs.Number.{first, output}
 use Rattle.matrix.specs.File.{checkNumber}
-use Rattle.matrix.proofs.Numbers.{holds, is-true, first-none, first-pass}
+use Rattle.matrix.proofs.Numbers.{holds, is-true}
 use Rattle.protocol.specs.declared.state.UnitState.{UnitState}
 use Rattle.protocol.specs.Scheme.{Side, side0, side1, other, sideByte, layoutBytes, fileNumber}
 use Rattle.protocol.specs.Base.{base}
 use Rattle.protocol.specs.Tape.{Accepted, K̃, x̃, z, r0, deal}
-use Rattle.protocol.specs.Frame.{frame, header}
+use Rattle.protocol.specs.Frame.{frame, bodyOf}
+use Rattle.protocol.specs.Evaluator.{codeOf}
 use Rattle.protocol.specs.Dealer.{dealFrame, dealt, dealConditions, dealNumber}
-use Rattle.protocol.specs.Unit.{Stepped, Beginning, begin, step, shareOf}
-use Rattle.protocol.specs.Join.{joinConditions, joinNumber, joined}
+use Rattle.protocol.specs.Unit.{Stepped, Beginning, begin, step, shareOf, takeMask, advance}
+use Rattle.protocol.specs.Join.{joined}
 use Rattle.protocol.specs.Run.{Inputs, WellFormed}
-use Rattle.protocol.specs.Exchange.{padded, Sends, RunFits}
-use Rattle.protocol.specs.Interface.{inputLayout, inputKey, inputLabel, inputTape, inputFile, runCode}
+use Rattle.protocol.specs.Exchange.{padded, Sends, RunFits, inputRows, shareFrom}
+use Rattle.protocol.specs.Interface.{inputKey, inputLabel, inputTape, inputFile, runCode}
 use Rattle.protocol.proofs.Fields.{two-fields}
 use Rattle.protocol.proofs.Outcomes.{length-frame}
 use Rattle.protocol.proofs.Configurations.{begins-as}
-use Rattle.protocol.proofs.MaskLaws.{openKey, openLabel, mask, share, bytes-mask}
-use Rattle.protocol.proofs.Stages.{termsAt, openBody, incoming, outgoing, unitAt, accepts, bytes-deal}
-use Rattle.protocol.proofs.ShareLaws.{shareFrameOf, bytes-code, joins-shares, joins-to-code}
+use Rattle.protocol.proofs.MaskLaws.{openKey, openLabel, mask, bytes-mask}
+use Rattle.protocol.proofs.StepLaws.{step-accepted}
+use Rattle.protocol.proofs.Stages.{termsAt, openBody, incoming, outgoing, unitAt, accepts-mask, accepts, bytes-deal}
+use Rattle.protocol.proofs.ShareLaws.{shareFrameOf, joins-to-code}
 use Rattle.protocol.proofs.Main.{base-linear}
-use Rattle.protocol.proofs.Runs.{key-0, key-1, label-0, label-1, tape-is, file-is}
+use Rattle.protocol.proofs.Runs.{key-0, key-1, label-0, label-1, tape-is}
 
 -- the front of what is padded
 pub padded-front : (n : ℕ) (w : List ℕ) → length w ≡ n → take n (padded w) ≡ w
 padded-front n w e = take-at w (drop (length w) (zeros 70)) n e
+
+-- a frame of 70 bytes is all of it
+pub padded-whole : (w : List ℕ) → length w ≡ 70 → padded w ≡ w
+padded-whole w e = ap (λ (k : ℕ). w ++ drop k (zeros 70)) e ∙ append-nil w
 
 module _ (input : List ℕ) (n : ℕ) (f : RunFits input n) (small : (i : ℕ) → getD input i 0 < 256) where
   bytes : Bytes 6528 input
@@ -106,11 +111,11 @@ module _ (input : List ℕ) (n : ℕ) (f : RunFits input n) (small : (i : ℕ) �
       ap length (sym (two-fields (openKey base given tape i) (openLabel base given tape i)))
       ∙ bytes-append (bytes-add 32 (inputKey input i) (K̃ base tape i)) (bytes-add 32 (inputLabel input i) (x̃ base tape i)) .size
 
-  pub open-is : (i : Side) (sent : List ℕ) → sent ≡ padded (getD (outgoing base given tape (other i)) 0 []) → take 70 sent ≡ incoming base given tape i 1
+  pub open-is : (i : Side) (sent : List ℕ) → sent ≡ padded (getD (outgoing base given tape (other i)) 0 []) → sent ≡ incoming base given tape i 1
   unfolding outgoing incoming
   open-is i sent e =
-      ap (take 70) e
-      ∙ padded-front 70 (frame 2 (termsAt base given tape (other i)) (openBody base given tape (other i)))
+      e
+      ∙ padded-whole (frame 2 (termsAt base given tape (other i)) (openBody base given tape (other i)))
       (length-frame 2 (termsAt base given tape (other i)) (openBody base given tape (other i)) ∙ ap (λ (k : ℕ). 6 + k) (open-length (other i)))
 
   pub mask-is : (i : Side) (sent : List ℕ) → sent ≡ padded (getD (outgoing base given tape (other i)) 1 []) → take 38 sent ≡ incoming base given tape i 2
@@ -120,20 +125,27 @@ module _ (input : List ℕ) (n : ℕ) (f : RunFits input n) (small : (i : ℕ) �
       ∙ padded-front 38 (frame 3 (termsAt base given tape (other i)) (mask base given tape (other i)))
       (length-frame 3 (termsAt base given tape (other i)) (mask base given tape (other i)) ∙ ap (λ (k : ℕ). 6 + k) (bytes-mask base given tape (other i) .size))
 
-  pub share-is : (i : Side) (sent : List ℕ) → sent ≡ padded (getD (outgoing base given tape i) 2 []) → take 28 sent ≡ shareFrameOf base given tape i
-  unfolding outgoing share shareOf
-  share-is i sent e =
-      ap (take 28) e
-      ∙ padded-front 28 (shareFrameOf base given tape i)
-      (length-frame 4 (termsAt base given tape i) (share base given tape i) ∙ ap (λ (k : ℕ). 6 + k) (bytes-code base (inputFile input) _ .size))
+  -- at the other's mask frame the step of a unit gets no number, so it takes the mask
+  takes-mask : (i : Side)
+      → takeMask base (unit i 2) (bodyOf (incoming base given tape i 2)) (inputFile input) ≡ step base (unit i 2) (incoming base given tape i 2) (inputFile input) 70
+  unfolding layoutBytes unitAt advance
+  takes-mask i =
+      sym (step-accepted base (unit i 2) (incoming base given tape i 2) (inputFile input) 70
+      (accepts-mask base base-linear given tape well accepted-tape i (inputFile input) 70 (lit≤ tt) (λ t. refl)))
+
+  -- and what it writes is made of the rows alone
+  pub share-is : (i : Side) (u : UnitState) (g r sent : List ℕ) → u ≡ unit i 2 → g ≡ incoming base given tape i 2 → r ≡ inputRows input
+      → sent ≡ shareFrom u (bodyOf g) r → sent ≡ shareFrameOf base given tape i
+  unfolding outgoing takeMask shareOf codeOf
+  share-is i u g r sent eu eg er e =
+      e
+      ∙ (λ j. shareFrom (eu j) (bodyOf (eg j)) (er j))
+      ∙ ap (λ (t : Stepped). t .written) (takes-mask i ∙ takes i 2 (lit< tt) (unit i 2) (incoming base given tape i 2) refl refl)
 
   -- and their join is the code
-  pub join-is : (a b : List ℕ) → a ≡ shareFrameOf base given tape side0 → b ≡ shareFrameOf base given tape side1
-      → (joinNumber base a b n ≡ 0) × (joined base a b ≡ runCode input)
-  unfolding runCode joinConditions
-  join-is a b ea eb =
-      let r = first-none 1 (ltb 22 22) _ (lit< tt) (joins-shares base given tape) .1 in
-      ((λ j. joinNumber base (ea j) (eb j) n) ∙ first-pass 1 (ltb n 22) _ (le-ltb n 22 (f .room-is)) ∙ r, (λ j. joined base (ea j) (eb j)) ∙ joins-to-code base given tape base-linear)
+  pub join-is : (a b : List ℕ) → a ≡ shareFrameOf base given tape side0 → b ≡ shareFrameOf base given tape side1 → joined base a b ≡ runCode input
+  unfolding runCode
+  join-is a b ea eb = (λ j. joined base (ea j) (eb j)) ∙ joins-to-code base given tape base-linear
 
 -- both frames of a deal that was written over 332 bytes
 module _ (t : List ℕ) (h : Accepted base t) (r : ℕ) (o : List ℕ) (e : r ≡ dealNumber base t 332) (w : o ≡ output r (dealt base 1 [] t) (zeros 332)) where

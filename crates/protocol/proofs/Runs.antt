@@ -1,32 +1,24 @@
 -- The program's one run: its input by fields, its number, and its six steps, which are those of a run in order.
 -- Assumes nothing.
-use mathlib.Core.Path.{_≡_, refl, sym, ap, _∙_, subst}
-use mathlib.Core.List.{List, [], _∷_, _++_, append-nil}
-use mathlib.Core.Bool.{Bool, true, false, cond, not, _||_}
-use Prim.Native.Nat.{ℕ, zero, suc, _+_, _*_, _<_, _≤_, _^_}
+use mathlib.Core.Path.{_≡_, refl, sym, ap, _∙_}
+use mathlib.Core.List.{List, [], _∷_}
+use mathlib.Core.Bool.{Bool, true, false, cond, _||_}
+use Prim.Native.Nat.{ℕ, zero, suc, _+_, _<_, _≤_}
 use native.Mathlib.Nat.{zero-add, suc-add}
 use native.Mathlib.Omega.{arith}
 use borrow.Author.Tests.{eq-eqb, ne-eqb, lt-ltb, le-ltb}
-use lib.Dec.{T, eqb, ltb, lit<, lit≤}
+use lib.Dec.{eqb, lit<, lit≤}
 use lib.ListN.{length, take, drop, length-drop}
 use lib.Seq.{drop-drop, take-take, take-nil, length-take-le}
-use Rattle.linear.specs.Bits.{Bytes, zeros, addBits}
 use Rattle.linear.specs.Trits.{fitTrits}
-use Rattle.linear.proofs.Strings.{bytes-slice}
-use Rattle.linear.proofs.Linearity.{circulant-bilinear}
-use Rattle.matrix.specs.Number.{_when_, first, output}
+use Rattle.matrix.specs.Number.{first}
 use Rattle.matrix.specs.File.{badCheck, badLayout, badTrit, zeroRow, faults, checkNumber}
 use Rattle.matrix.proofs.Numbers.{NoneHolds, none-holds, is-equal, is-at-least, is-true, denied, or-left, or-right}
-use Rattle.protocol.specs.declared.state.UnitState.{UnitState}
-use Rattle.protocol.specs.Scheme.{Side, side0, side1, other, sideByte, layoutBytes, field, fileNumber}
+use Rattle.protocol.specs.Scheme.{side0, side1, layoutBytes}
 use Rattle.protocol.specs.Base.{base}
-use Rattle.protocol.specs.Tape.{Accepted, r0}
-use Rattle.protocol.specs.Frame.{frame}
-use Rattle.protocol.specs.Dealer.{dealFrame, dealt, dealConditions, dealNumber}
-use Rattle.protocol.specs.Unit.{Stepped, begin, step, readsFile}
-use Rattle.protocol.specs.Run.{Inputs, WellFormed}
-use Rattle.protocol.specs.Exchange.{padded, Sends, RunFits}
-use Rattle.protocol.specs.Interface.{inputLayout, inputKey, inputLabel, inputTape, inputFile, runConditions, runNumber, runCode}
+use Rattle.protocol.specs.Tape.{r0}
+use Rattle.protocol.specs.Exchange.{RunFits}
+use Rattle.protocol.specs.Interface.{inputLayout, inputKey, inputLabel, inputTape, inputFile, runConditions, runNumber}
 use Rattle.protocol.proofs.Fields.{field-place, tape-r0}
 
 -- ---- the input's fields
@@ -71,6 +63,15 @@ unfit-tape false true c d n e = ap withUnfit e
 unfit-tape false false true d n e = ap withUnfit e
 unfit-tape false false false true n e = ap withUnfit e
 unfit-tape false false false false n e = ap withUnfit e
+
+-- and so never 0
+pub unfit-number : (n : ℕ) → withUnfit n ≡ 0 → ⊥
+unfit-number n = pick (eqb n 8) (eqb n 9)
+  where
+    pick : (a b : Bool) → lowest a b true true ≡ 0 → ⊥
+    pick true b e = omega arith
+    pick false true e = omega arith
+    pick false false e = omega arith
 
 fit-tape : (a b c d : Bool) → lowest a b c d ≡ lowest a b (c || false) d
 fit-tape true b c d = refl

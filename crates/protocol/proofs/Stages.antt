@@ -160,7 +160,8 @@ module _ (S : Scheme) (L : Linear S) (a : Inputs) (tape : List ℕ) (well : Well
       (bytes-open (other i) .size) (read-length S file (readsFile S (incoming S a tape i 1)) (fit-file 1 e))
       (read-faults S file (readsFile S (incoming S a tape i 1)) (fit-file 1 e)))
 
-  accepts-mask : RightFile 2 → stepNumber S (termsAt S a tape i) maskKind (incoming S a tape i 2) file outputLength ≡ 0
+  -- nor does its mask frame
+  pub accepts-mask : RightFile 2 → stepNumber S (termsAt S a tape i) maskKind (incoming S a tape i 2) file outputLength ≡ 0
   unfolding incoming readsFile frame header onlyIf
   accepts-mask e =
       subst (λ (s : ℕ). stepNumber S (termsAt S a tape i) maskKind (frame maskKind (terms s (a .session)) (mask S a tape (other i))) file outputLength ≡ 0)

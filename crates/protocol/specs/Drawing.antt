@@ -1,8 +1,9 @@
 -- What the sampler's loop has found: the definition's trits and next pair, or too few. Only its own contract cites it.
-use Prim.Native.Nat.{ℕ, _+_, _*_, _/_, _%_, _<_, _≤_}
+use Prim.Native.Nat.{ℕ, _+_, _*_, _<_, _≤_}
 use mathlib.Core.Path.{_≡_}
 use mathlib.Core.List.{List}
 use lib.ListN.{length, getD}
+use Rattle.linear.specs.Bits.{digit}
 use Rattle.protocol.specs.Base.{base}
 use Rattle.protocol.specs.Sampler.{tritOf, drawn}
 
@@ -14,6 +15,6 @@ pub record Drew (source trits : List ℕ) (found byte pair : ℕ) : Type 0 where
   pub all : 256 ≤ found → (drawn base source .trits ≡ trits) × (drawn base source .next ≡ 4 * byte + pair)
   pub short : found < 256 → length (drawn base source .trits) < 256
 
--- the bit of value half of trit j
+-- bit h of trit j
 abbrev pub planeBit : List ℕ → ℕ → ℕ → ℕ
-planeBit trits half j = tritOf trits j / half % 2
+planeBit trits h j = digit (tritOf trits j) h

@@ -24,6 +24,24 @@ pub fn put(s: &[u8], out: &mut [u8], at: usize)
     }
 }
 
+// Copies 32 bytes to `out` from `at` on.
+pub fn put_32(a: [u8; 32], out: &mut [u8], at: usize)
+    requires { ⌜ at + 32 ≤ length (now out) ⌝ }
+    ensures long { λ _. ⌜ length a ≡ 32 ⌝ }
+    ensures written { λ _. ⌜ now (out .exit) ≡ take at (now (out .entry)) ++ a ++ drop (at + length a) (now (out .entry)) ⌝ }
+{
+    put(&a, out, at);
+}
+
+// Copies 64 bytes to `out` from `at` on.
+pub fn put_64(a: [u8; 64], out: &mut [u8], at: usize)
+    requires { ⌜ at + 64 ≤ length (now out) ⌝ }
+    ensures long { λ _. ⌜ length a ≡ 64 ⌝ }
+    ensures written { λ _. ⌜ now (out .exit) ≡ take at (now (out .entry)) ++ a ++ drop (at + length a) (now (out .entry)) ⌝ }
+{
+    put(&a, out, at);
+}
+
 // The 32 bytes of `s` from `at` on.
 pub fn array_32(s: &[u8], at: usize) -> [u8; 32]
     requires { ⌜ at + 32 ≤ length (now s) ⌝ }

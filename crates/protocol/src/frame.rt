@@ -97,7 +97,7 @@ pub fn header_number(h: Header) -> u32
 }
 
 // The bytes of a header.
-fn header_bytes(kind: u8, side: u8, session: u32) -> [u8; 6]
+pub fn header_bytes(kind: u8, side: u8, session: u32) -> [u8; 6]
     ensures { λ r. ⌜ r ≡ header kind (terms side session) ⌝ }
 {
     [

@@ -1,49 +1,44 @@
 // The C interface: each function is total over slices, answers a number of the table, and neither allocates nor keeps a pointer.
 ghost use mathlib.Core.Path.{_≡_};
-ghost use mathlib.Core.List.{[], _∷_, _++_};
-ghost use Prim.Native.Nat.{_≤_};
+ghost use mathlib.Core.List.{[], _++_};
 ghost use lib.ListN.{length, drop};
-ghost use Rattle.protocol.specs.Scheme.{concat};
 ghost use Rattle.matrix.specs.Number.{output, reported};
 ghost use Rattle.matrix.specs.File.{checkNumber, readNumber, writeNumber, readOutput, writeOutput};
 ghost use Rattle.protocol.specs.declared.state.UnitState.{UnitState};
 ghost use Rattle.protocol.specs.Base.{base};
+ghost use Rattle.protocol.specs.Frame.{kindOf};
 ghost use Rattle.protocol.specs.Sampler.{sampled, used, sampleNumber};
 ghost use Rattle.protocol.specs.Dealer.{dealt, dealNumber, dealSourceNumber};
 ghost use Rattle.protocol.specs.Evaluator.{code, evaluateNumber};
+ghost use Rattle.protocol.specs.Exchange.{HeldMeets};
 ghost use Rattle.protocol.specs.Interface.{encodeState, decodeState, Sized, pairBeginNumber, pairBeginState, pairStepNumber, pairStepState, pairStepWritten};
 use crate::bytes::array_32;
 use crate::bytes::array_64;
-use crate::bytes::deal_body;
-use crate::bytes::join_32;
 use crate::bytes::put;
+use crate::bytes::put_32;
+use crate::bytes::put_64;
 use crate::dealer::deal;
 use crate::dealer::deal_source;
 use crate::evaluator::evaluate;
+use crate::frame::OPEN;
+use crate::frame::header_bytes;
 use crate::frame::session_of;
-use crate::frame::write_frame;
 use crate::sampler::sample;
 use crate::state::UnitState;
 use crate::unit::begin;
+use crate::unit::frame_number;
+use crate::unit::take_deal;
+use linear::trits::trits_fit;
 use matrix::file::matrix_check;
 use matrix::file::matrix_read;
 use matrix::file::matrix_write;
 
-// The halves, the deal and the mask of a state in a row.
-fn joined(halves: [u8; 64], deal: [u8; 160], mask: [u8; 32]) -> [u8; 256]
-    ensures { λ r. ⌜ r ≡ concat (halves ∷ deal ∷ mask ∷ []) ⌝ }
+// Writes a state to a slice of 262 bytes.
+fn encode(u: UnitState, s: &mut [u8])
+    requires { ⌜ length (now s) ≡ 262 ⌝ }
+    ensures { λ _. ⌜ now (s .exit) ≡ encodeState u ⌝ }
 {
-    let mut body = [0u8; 256];
-    put(&halves, &mut body, 0);
-    put(&deal, &mut body, 64);
-    put(&mask, &mut body, 224);
-    body
-}
-
-// The arrays of a state in a row.
-fn holdings(u: UnitState) -> [u8; 256]
-    ensures { λ r. ⌜ r ≡ concat (u .key ∷ u .label ∷ u .keymask ∷ u .labelmask ∷ u .z ∷ u .r ∷ u .mask ∷ []) ⌝ }
-{
+    let head = header_bytes(u.stage, u.side, u.session);
     let key = u.key;
     let label = u.label;
     let keymask = u.keymask;
@@ -51,20 +46,14 @@ fn holdings(u: UnitState) -> [u8; 256]
     let z = u.z;
     let r = u.r;
     let mask = u.mask;
-    joined(
-        join_32(key, label),
-        deal_body(keymask, labelmask, z, r),
-        mask,
-    )
-}
-
-// Writes a state to a slice of 262 bytes.
-fn encode(u: UnitState, s: &mut [u8])
-    requires { ⌜ length (now s) ≡ 262 ⌝ }
-    ensures { λ _. ⌜ now (s .exit) ≡ encodeState u ⌝ }
-{
-    let body = holdings(u);
-    write_frame(u.stage, u.side, u.session, &body, s);
+    put(&head, s, 0);
+    put_32(key, s, 6);
+    put_32(label, s, 38);
+    put_32(keymask, s, 70);
+    put_32(labelmask, s, 102);
+    put_32(z, s, 134);
+    put_64(r, s, 166);
+    put_32(mask, s, 230);
 }
 
 // The state in a slice of 262 bytes.
@@ -186,6 +175,30 @@ pub extern "C" fn pair_begin(
     b.result
 }
 
+// The step of a unit that waits for a deal. It makes no product, so a state that is copied through calls would be most of its time:
+// it is kept apart from the other steps.
+fn step_waiting(state: &mut [u8], f: &[u8], file: &[u8], out: &mut [u8], count: &mut u64) -> u32
+    requires { ⌜ (length (now state) ≡ 262) × (kindOf (now state) ≡ 1) ⌝ }
+    ensures { λ r. ⌜
+        HeldMeets (now (state .entry)) (now (f .entry)) (now (file .entry)) (now (out .entry))
+        r (now (state .exit)) (now (out .exit)) (now (count .exit))
+        ⌝ }
+{
+    let number = frame_number(state[1], session_of(state), state[0], f, file, out.len());
+    if number != 0 {
+        *count = 0;
+        return number;
+    }
+    if trits_fit(&f[102..166], 256) {
+        let next = take_deal(decode(state), f, out);
+        encode(next, state);
+        *count = OPEN as u64;
+        return 0;
+    }
+    *count = 0;
+    10
+}
+
 // One step of the unit in a slice: what it writes goes to `out`, and how much to `count`; a refused step leaves the slice as it was.
 #[no_mangle]
 pub extern "C" fn pair_step(
@@ -211,6 +224,9 @@ pub extern "C" fn pair_step(
     if state.len() != 262 {
         *count = 0;
         return 1;
+    }
+    if state[0] == 1 {
+        return step_waiting(state, f, file, out, count);
     }
     let s = decode(state).step(f, file, out);
     *count = s.written as u64;

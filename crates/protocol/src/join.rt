@@ -3,6 +3,7 @@ ghost use mathlib.Core.Path.{_≡_};
 ghost use mathlib.Core.List.{[], _∷_};
 ghost use mathlib.Core.Bool.{cond, not};
 ghost use lib.Dec.{eqb, ltb};
+ghost use Prim.Native.Nat.{_≤_};
 ghost use lib.ListN.{length};
 ghost use Rattle.linear.specs.Trits.{fitTrits, zeroTrits};
 ghost use Rattle.matrix.specs.Number.{_when_, first, output};
@@ -89,6 +90,18 @@ fn join_number(f: &[u8], g: &[u8], room: usize) -> u32
     )
 }
 
+// The code of two share frames that fit: their bodies added modulo 3. No branch depends on them.
+pub(crate) fn add_shares(first: &[u8], second: &[u8], out: &mut [u8])
+    requires { ⌜ (length (now first) ≡ 28) × (length (now second) ≡ 28) × (22 ≤ length (now out)) ⌝ }
+    ensures { λ _. ⌜ now (out .exit) ≡ output 0 (joined base (now (first .entry)) (now (second .entry))) (now (out .entry)) ⌝ }
+{
+    add_trits(
+        &first[HEADER..SHARE],
+        &second[HEADER..SHARE],
+        &mut out[..CODE],
+    );
+}
+
 // The code of two share frames, side 0's first.
 #[no_mangle]
 pub extern "C" fn pair_join(first: &[u8], second: &[u8], out: &mut [u8]) -> u32
@@ -99,10 +112,6 @@ pub extern "C" fn pair_join(first: &[u8], second: &[u8], out: &mut [u8]) -> u32
     if number != 0 {
         return number;
     }
-    add_trits(
-        &first[HEADER..SHARE],
-        &second[HEADER..SHARE],
-        &mut out[..CODE],
-    );
+    add_shares(first, second, out);
     0
 }

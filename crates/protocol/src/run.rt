@@ -1,10 +1,10 @@
-// What the program does as one call: the dealer and both units in session 1, frame by frame, and the counter's join.
+// What the program does as one call: the dealer and both units in session 1, frame by frame, and the counter's sum. What must be
+// accepted is not judged again: the file is read once, and no branch depends on the shares.
 ghost use mathlib.Core.Path.{_≡_};
-ghost use mathlib.Core.List.{[], _++_};
+ghost use mathlib.Core.List.{[]};
 ghost use mathlib.Core.Bool.{true, cond};
 ghost use lib.Dec.{eqb};
-ghost use Prim.Native.Nat.{_≤_};
-ghost use lib.ListN.{length, take, drop};
+ghost use lib.ListN.{length, take};
 ghost use Rattle.matrix.specs.Number.{output};
 ghost use Rattle.linear.specs.Trits.{fitTrits};
 ghost use Rattle.protocol.specs.Scheme.{side0, side1};
@@ -12,15 +12,16 @@ ghost use Rattle.protocol.specs.Base.{base};
 ghost use Rattle.protocol.specs.Tape.{r0};
 ghost use Rattle.protocol.specs.Dealer.{dealFrame};
 ghost use Rattle.protocol.specs.Unit.{begin, step};
-ghost use Rattle.protocol.specs.Exchange.{Sends, RunFits};
-ghost use Rattle.protocol.specs.Join.{joinNumber, joined};
+ghost use Rattle.protocol.specs.Frame.{bodyOf};
+ghost use Rattle.protocol.specs.Exchange.{Sends, RunFits, inputRows, shareFrom};
 ghost use Rattle.protocol.specs.Interface.{inputKey, inputLabel, inputTape, inputFile, runNumber, runCode};
 use crate::dealer::deal;
-use crate::join::pair_join;
+use crate::join::add_shares;
 use crate::state::UnitState;
 use crate::unit::begin;
+use crate::unit::take_mask;
 use linear::trits::trits_fit;
-use matrix::file::matrix_check;
+use matrix::file::matrix_read;
 
 // What a unit sends, in the front of 70 bytes, and the unit afterwards.
 struct Sent {
@@ -41,14 +42,6 @@ fn send(u: UnitState, f: &[u8], file: &[u8]) -> Sent
     }
 }
 
-// One step over the first `n` bytes of what the other has sent.
-fn answer(u: UnitState, sent: [u8; 70], n: usize, file: &[u8]) -> Sent
-    requires { ⌜ n ≤ 70 ⌝ }
-    ensures { λ r. ⌜ Sends (step base u (take n sent) (now (file .entry)) 70) (r .frame) (r .next) ⌝ }
-{
-    send(u, &sent[0..n], file)
-}
-
 // What both units have sent, and both afterwards.
 struct Round {
     frame0: [u8; 70],
@@ -57,18 +50,17 @@ struct Round {
     next1: UnitState,
 }
 
-// Each unit takes the first `n` bytes of what the other has sent.
-fn exchange(b: Round, n: usize, file: &[u8]) -> Round
-    requires { ⌜ n ≤ 70 ⌝ }
-    ensures first { λ r. ⌜ Sends (step base (b .next0) (take n (b .frame1)) (now (file .entry)) 70) (r .frame0) (r .next0) ⌝ }
-    ensures second { λ r. ⌜ Sends (step base (b .next1) (take n (b .frame0)) (now (file .entry)) 70) (r .frame1) (r .next1) ⌝ }
+// Each unit takes the 70 bytes that the other has sent.
+fn exchange(b: Round, file: &[u8]) -> Round
+    ensures first { λ r. ⌜ Sends (step base (b .next0) (b .frame1) (now (file .entry)) 70) (r .frame0) (r .next0) ⌝ }
+    ensures second { λ r. ⌜ Sends (step base (b .next1) (b .frame0) (now (file .entry)) 70) (r .frame1) (r .next1) ⌝ }
 {
     let sent0 = b.frame0;
     let sent1 = b.frame1;
     let unit0 = b.next0;
     let unit1 = b.next1;
-    let first = answer(unit0, sent1, n, file);
-    let second = answer(unit1, sent0, n, file);
+    let first = send(unit0, &sent1, file);
+    let second = send(unit1, &sent0, file);
     let frame0 = first.frame;
     let next0 = first.next;
     let frame1 = second.frame;
@@ -111,20 +103,9 @@ fn first_round(input: &[u8]) -> Round
 {
     let mut dealt = [0u8; 332];
     deal(1, &input[128..384], &mut dealt);
-    let first = start(
-        0,
-        &input[0..32],
-        &input[64..96],
-        &dealt[0..166],
-        &input[384..6528],
-    );
-    let second = start(
-        1,
-        &input[32..64],
-        &input[96..128],
-        &dealt[166..332],
-        &input[384..6528],
-    );
+    let file = &input[384..6528];
+    let first = start(0, &input[0..32], &input[64..96], &dealt[0..166], file);
+    let second = start(1, &input[32..64], &input[96..128], &dealt[166..332], file);
     let frame0 = first.frame;
     let next0 = first.next;
     let frame1 = second.frame;
@@ -137,26 +118,29 @@ fn first_round(input: &[u8]) -> Round
     }
 }
 
-// The code of the shares in the front of two strings.
-fn join_shares(a: [u8; 70], b: [u8; 70], out: &mut [u8]) -> u32
-    ensures result { λ r. ⌜ r ≡ joinNumber base (take 28 a) (take 28 b) (length (now (out .entry))) ⌝ }
-    ensures written { λ r. ⌜ now (out .exit) ≡ output r (joined base (take 28 a) (take 28 b)) (now (out .entry)) ⌝ }
+// A unit's share frame: what its step writes at the mask frame in the front of what the other has sent, of the rows of the file.
+fn share_frame(u: UnitState, sent: [u8; 70], rows: &[u8]) -> [u8; 28]
+    ensures { λ r. ⌜ r ≡ shareFrom u (bodyOf (take 38 sent)) (now (rows .entry)) ⌝ }
 {
-    pair_join(&a[0..28], &b[0..28], out)
+    let mut frame = [0u8; 28];
+    take_mask(u, &sent[0..38], rows, &mut frame);
+    frame
 }
 
-// Runs both units on an input that fits, and joins their shares.
-fn run_units(input: &[u8], out: &mut [u8]) -> u32
-    requires { ⌜ RunFits (now input) (length (now out)) ⌝ }
-    ensures result { λ r. ⌜ r ≡ 0 ⌝ }
-    ensures written { λ _. ⌜ now (out .exit) ≡ output 0 (runCode (now (input .entry))) (now (out .entry)) ⌝ }
+// Runs both units on an input that fits, with the rows of its file, and adds their shares.
+fn run_units(input: &[u8], rows: &[u8], out: &mut [u8])
+    requires { ⌜ RunFits (now input) (length (now out)) × (now rows ≡ inputRows (now input)) ⌝ }
+    ensures { λ _. ⌜ now (out .exit) ≡ output 0 (runCode (now (input .entry))) (now (out .entry)) ⌝ }
 {
     let one = first_round(input);
-    let two = exchange(one, 70, &input[384..6528]);
-    let three = exchange(two, 38, &input[384..6528]);
-    let share0 = three.frame0;
-    let share1 = three.frame1;
-    join_shares(share0, share1, out)
+    let two = exchange(one, &input[384..6528]);
+    let mask0 = two.frame0;
+    let mask1 = two.frame1;
+    let unit0 = two.next0;
+    let unit1 = two.next1;
+    let share0 = share_frame(unit0, mask1, rows);
+    let share1 = share_frame(unit1, mask0, rows);
+    add_shares(&share0, &share1, out);
 }
 
 // The number of an input whose tape has a trit with both bits set, of its file's.
@@ -169,9 +153,11 @@ fn with_unfit_tape(number: u32) -> u32
     if number == 9 { 9 } else { 10 }
 }
 
-// The lowest number over all of the input.
-fn run_number(input: &[u8], room: usize) -> u32
-    ensures { λ r. ⌜ r ≡ runNumber (now (input .entry)) room ⌝ }
+// The lowest number over all of the input. Where it is 0, the rows of its file are written.
+fn run_number(input: &[u8], room: usize, rows: &mut [u8]) -> u32
+    requires { ⌜ length (now rows) ≡ 5184 ⌝ }
+    ensures result { λ r. ⌜ r ≡ runNumber (now (input .entry)) room ⌝ }
+    ensures written { λ r. ⌜ (r ≡ 0 → now (rows .exit) ≡ inputRows (now (input .entry))) ⌝ }
 {
     if input.len() != 6528 {
         return 1;
@@ -179,7 +165,7 @@ fn run_number(input: &[u8], room: usize) -> u32
     if room < 22 {
         return 1;
     }
-    let number = matrix_check(&input[384..6528]);
+    let number = matrix_read(&input[384..6528], rows);
     if trits_fit(&input[320..384], 256) {
         return number;
     }
@@ -192,9 +178,11 @@ pub extern "C" fn pair_run(input: &[u8], out: &mut [u8]) -> u32
     ensures result { λ r. ⌜ r ≡ runNumber (now (input .entry)) (length (now (out .entry))) ⌝ }
     ensures written { λ r. ⌜ now (out .exit) ≡ output r (runCode (now (input .entry))) (now (out .entry)) ⌝ }
 {
-    let number = run_number(input, out.len());
+    let mut rows = [0u8; 5184];
+    let number = run_number(input, out.len(), &mut rows);
     if number != 0 {
         return number;
     }
-    run_units(input, out)
+    run_units(input, &rows, out);
+    0
 }

@@ -3,14 +3,14 @@ ghost use mathlib.Core.Path.{_≡_};
 ghost use mathlib.Core.List.{List, _++_};
 ghost use Prim.Native.Nat.{ℕ, _+_, _-_, _*_, _/_, _%_, _^_, _<_, _≤_};
 ghost use lib.ListN.{length, getD, take, drop};
-ghost use Rattle.linear.specs.Bits.{byteOf};
+ghost use Rattle.linear.specs.Bits.{digit, number, byteOf};
 ghost use Rattle.linear.specs.Trits.{packTrits};
 ghost use Rattle.protocol.specs.Base.{base};
 ghost use Rattle.protocol.specs.Sampler.{tritOf, drawn, sampled, used, sampleNumber};
 ghost use Rattle.matrix.specs.Number.{output, reported};
 ghost use Rattle.protocol.specs.Drawing.{Drew, planeBit};
 use crate::bytes::put;
-use linear::bits::byte_at;
+use linear::bits::word_at;
 use source::reader::pair_from;
 
 // What a reader has found: `found` trits, and where it stands.
@@ -62,18 +62,23 @@ fn draw_trits(source: &[u8]) -> Drawing
     }
 }
 
-// Byte `i` of a plane of trits: their bits of value `half`.
-fn plane_byte(trits: &[u8], half: u8, i: usize) -> u8
-    requires { ⌜ (0 < half) × (i < 32) ⌝ }
-    ensures { λ r. ⌜ r ≡ byteOf (planeBit (now (trits .entry)) half) i ⌝ }
+// Every eighth bit of a word from bit `h` on, in a byte: each of three steps brings twice as many together.
+fn gathered(x: u64, h: usize) -> u8
+    requires { ⌜ h < 8 ⌝ }
+    ensures { λ r. ⌜ r ≡ number 8 (λ k. digit x (8 * k + h)) ⌝ }
 {
-    let mut acc: u8 = 0;
-    let mut k: usize = 0;
-    while k < 8 {
-        acc |= (byte_at(trits, 8 * i + k) / half % 2) << k;
-        k += 1;
-    }
-    acc
+    let one = (x >> h) & 0x0101010101010101;
+    let two = one | one >> 7;
+    let four = two | two >> 14;
+    ((four | four >> 28) % 256) as u8
+}
+
+// Byte `i` of a plane of trits: bit `h` of each.
+fn plane_byte(trits: &[u8], h: usize, i: usize) -> u8
+    requires { ⌜ (h < 8) × (i < 32) ⌝ }
+    ensures { λ r. ⌜ r ≡ byteOf (planeBit (now (trits .entry)) h) i ⌝ }
+{
+    gathered(word_at(trits, 8 * i), h)
 }
 
 // The two planes of 256 trits.
@@ -84,8 +89,8 @@ fn packed(trits: &[u8]) -> [u8; 64]
     let mut v = [0u8; 64];
     let mut i: usize = 0;
     while i < 32 {
-        v[i] = plane_byte(trits, 1, i);
-        v[32 + i] = plane_byte(trits, 2, i);
+        v[i] = plane_byte(trits, 0, i);
+        v[32 + i] = plane_byte(trits, 1, i);
         i += 1;
     }
     v

@@ -4,15 +4,14 @@ ghost use mathlib.Core.List.{[], _++_};
 ghost use Prim.Native.Nat.{_+_, _≤_};
 ghost use lib.ListN.{length, drop};
 ghost use Rattle.protocol.specs.Base.{base};
-ghost use Rattle.protocol.specs.Frame.{terms, frame, bodyOf};
+ghost use Rattle.protocol.specs.Frame.{terms, bodyOf};
 ghost use Rattle.linear.specs.Bits.{addBits};
-ghost use Rattle.linear.specs.Trits.{innerShare};
-ghost use Rattle.linear.specs.Products.{matrixProduct};
 ghost use Rattle.protocol.specs.Unit.{begin, beginNumber, maskOf, readsFile, expectedSide, lengthConditions, headerConditions, unfitDeal, Meets, refused, takeDeal, takeOpen, takeMask, step, done};
+ghost use Rattle.protocol.specs.Exchange.{shareFrom};
 ghost use Rattle.protocol.specs.Run.{protocol};
 ghost use Rattle.protocol.specs.Theorem.{Demand3};
 ghost use Rattle.matrix.specs.Number.{first};
-ghost use Rattle.matrix.specs.File.{faults, readNumber};
+ghost use Rattle.matrix.specs.File.{faults};
 ghost use mathlib.Core.Bool.{cond};
 ghost use lib.Dec.{eqb};
 use crate::bytes::array_32;
@@ -74,7 +73,17 @@ pub fn begin(side: u32, session: u32, key: &[u8], label: &[u8]) -> Begun
     }
 }
 
-// ŵi = K̂ × x̃i + K̃i × x̂ + zi modulo 2; side 0 also adds K̂ × x̂.
+// What K̂ is multiplied with in ŵi: x̃i, and on side 0 x̃0 + x̂.
+fn label_factor(side: u8, x: [u8; 32], labelmask: [u8; 32]) -> [u8; 32]
+    ensures { λ r. ⌜ r ≡ cond (eqb side 0) (addBits 32 labelmask x) labelmask ⌝ }
+{
+    if side == 0 {
+        return sum_32(labelmask, x);
+    }
+    labelmask
+}
+
+// ŵi = K̂ × x̃i + K̃i × x̂ + zi modulo 2; side 0 also adds K̂ × x̂. The product is linear, so K̂ × x̃0 + K̂ × x̂ is one product.
 fn mask_of(
     side: u8,
     k: [u8; 32],
@@ -85,16 +94,13 @@ fn mask_of(
 ) -> [u8; 32]
     ensures { λ r. ⌜ r ≡ maskOf base [] side k x keymask labelmask z ⌝ }
 {
-    let crossed = sum_32(product_32(k, labelmask), product_32(keymask, x));
-    let w = sum_32(crossed, z);
-    if side == 0 {
-        return sum_32(w, product_32(k, x));
-    }
-    w
+    let factor = label_factor(side, x, labelmask);
+    let crossed = sum_32(product_32(k, factor), product_32(keymask, x));
+    sum_32(crossed, z)
 }
 
 // It takes a deal, and writes its open frame.
-fn take_deal(u: UnitState, f: &[u8], out: &mut [u8]) -> UnitState
+pub(crate) fn take_deal(u: UnitState, f: &[u8], out: &mut [u8]) -> UnitState
     requires { ⌜ (length (now f) ≡ 166) × (70 ≤ length (now out)) ⌝ }
     ensures next { λ r. ⌜ r ≡ takeDeal base u (bodyOf (now (f .entry))) .next ⌝ }
     ensures output { λ _. ⌜ now (out .exit) ≡ takeDeal base u (bodyOf (now (f .entry))) .written ++ drop 70 (now (out .entry)) ⌝ }
@@ -216,7 +222,14 @@ fn terms_number(side: u8, session: u32, stage: u8, f: &[u8]) -> u32
 }
 
 // The number of a step before it looks at what the frame brings.
-fn frame_number(side: u8, session: u32, stage: u8, f: &[u8], file: &[u8], output: usize) -> u32
+pub(crate) fn frame_number(
+    side: u8,
+    session: u32,
+    stage: u8,
+    f: &[u8],
+    file: &[u8],
+    output: usize,
+) -> u32
     ensures { λ r. ⌜
         r ≡ first (lengthConditions base (now (f .entry)) (now (file .entry)) output ++ headerConditions base (terms side session) stage (now (f .entry)))
         ⌝ }
@@ -274,15 +287,10 @@ fn step_open(u: UnitState, f: &[u8], out: &mut [u8]) -> Stepped
 }
 
 // It takes the other's mask frame, writes its share frame and is done.
-fn take_mask(u: UnitState, f: &[u8], rows: &[u8], out: &mut [u8]) -> UnitState
-    requires { ⌜ (length (now f) ≡ 38) × (70 ≤ length (now out)) ⌝ }
+pub(crate) fn take_mask(u: UnitState, f: &[u8], rows: &[u8], out: &mut [u8]) -> UnitState
+    requires { ⌜ (length (now f) ≡ 38) × (28 ≤ length (now out)) ⌝ }
     ensures next { λ r. ⌜ r ≡ done base (terms (u .side) (u .session)) ⌝ }
-    ensures output { λ _. ⌜
-        now (out .exit) ≡
-        frame 4 (terms (u .side) (u .session))
-        (matrixProduct 11 32 81 (now (rows .entry)) (innerShare 32 (u .side) (addBits 32 (u .mask) (bodyOf (now (f .entry)))) (u .r)))
-        ++ drop 28 (now (out .entry))
-        ⌝ }
+    ensures output { λ _. ⌜ now (out .exit) ≡ shareFrom u (bodyOf (now (f .entry))) (now (rows .entry)) ++ drop 28 (now (out .entry)) ⌝ }
 {
     let mask = u.mask;
     let r = u.r;

@@ -1,11 +1,8 @@
 -- `protocol::run::first_round` meets its contract: the parts of the input are its fields, and those of the deal its frames.
 -- Assumes nothing.
-use mathlib.Core.Path.{_≡_, sym, ap, _∙_}
-use mathlib.Core.List.{List, []}
-use Prim.Native.Nat.{ℕ}
+use mathlib.Core.List.{[]}
 use borrow.Author.Needs.{needs}
 use lib.Dec.{lit≤}
-use lib.ListN.{length, take, drop}
 use Rattle.linear.specs.Bits.{Bytes}
 use Rattle.linear.specs.Trits.{fitTrits}
 use Rattle.linear.proofs.Strings.{bytes-slice}
@@ -22,7 +19,7 @@ use Rattle.protocol.proofs.run.first_round.Tie as tie
 returns : tie.Need-returns
 unfolding layoutBytes
 returns c =
-    let d = c .before .before .before .before .before .before .before .before .before .before .before .before .before .before .before .before .before in
+    let d = c .before .before .before .before .before .before .before .before .before .before .before .before .before .before .before .before in
     let s = d .before .before .before .before in
     let input = s .args .input .now in
     let bytes : Bytes 6528 input = record { size = s .pre .0; small = λ i. d .before .before .before .shared-slice-known .given i .fits } in
@@ -32,7 +29,7 @@ returns c =
     let w = rw (tape-is input) at (d .deal .ensures .1) in
     let f0 = deal-0 (inputTape input) a _ _ e w in
     let f1 = deal-1 (inputTape input) a _ _ e w in (
-      rw (key-0 input, label-0 input, f0, file-is input) at (c .before .before .before .before .before .before .before .before .before .before .start .ensures),
+      rw (key-0 input, label-0 input, f0, file-is input) at (c .before .before .before .before .before .before .before .before .before .start .ensures),
       rw (key-1 input, label-1 input, f1, file-is input) at (c .before .before .before .before .start2 .ensures),
     )
 
@@ -58,9 +55,6 @@ first-round-spec =
     (λ c. search needs)
     (λ c. search needs)
     (λ c κs. search needs)
-    (λ c. search needs)
-    (λ c. search needs)
-    (λ c. search needs)
     (λ c. search needs)
     (λ c. search needs)
     (λ c. search needs)

@@ -1,46 +1,28 @@
--- `protocol::sampler::plane_byte` meets its contract. The invariant of its loop: `acc` has the first k bits.
+-- `protocol::sampler::plane_byte` meets its contract. Bit h of byte k of a word is bit 8k + h of it.
 -- Assumes nothing.
-use mathlib.Core.Path.{_≡_, ap}
-use Prim.Native.Nat.{ℕ, _-_, _*_, _/_, _%_, _≤_}
+use mathlib.Core.Path.{_≡_, ap, _∙_}
+use Prim.Native.Nat.{ℕ, _+_, _*_}
 use native.Mathlib.Omega.{arith}
+use borrow.Author.Needs.{needs}
 use Rattle.linear.specs.Tables.{from}
-use Rattle.linear.specs.Bits.{number}
-use Rattle.linear.proofs.Digits.{or-more}
+use Rattle.linear.specs.Bits.{digit, bit}
+use Rattle.linear.proofs.Digits.{number-ext}
+use Rattle.linear.proofs.Strings.{bit-at}
+use Rattle.linear.proofs.Numbers.{word-digit}
 use Rattle.protocol.specs.Drawing.{planeBit}
 use Rattle.protocol.proofs.sampler.plane_byte.Statement.{statement}
 use Rattle.protocol.proofs.sampler.plane_byte.Tie as tie
 
-abbrev Inv-loop : tie.InvT-loop
-Inv-loop trits half i acc₀ k₀ acc k = (k ≤ 8) × (acc ≡ number k (from (8 * i) (planeBit trits half)))
-
-abbrev μ-loop : tie.MeasureT-loop
-μ-loop trits half i acc₀ k₀ acc k = 8 - k
-
-loop-again : tie.Need-loop-again Inv-loop μ-loop
-loop-again c =
-    let l = c .before .before in
-    let h = l .before .before .args .half in
-    (omega arith, or-more 8 _ _ _ _ (c .before .loop-test .taken) (λ i. omega arith) (l .loop .inv .1) (ap (λ (x : ℕ). x / h % 2) (c .byte-at .ensures)))
-
-returns : tie.Need-returns Inv-loop μ-loop
+returns : tie.Need-returns
 returns c =
-    let e : c .before .loop .k ≡ 8 = omega arith in
-    rw e at (c .before .loop .inv .1)
+    let a = c .before .before .before .args in
+    let t = a .trits .now in
+    let h = a .h in
+    let i = a .i in
+    c .gathered .ensures
+    ∙ number-ext 8 _ (from (8 * i) (planeBit t h))
+    (λ k l. word-digit t (8 * (8 * i)) _ (c .before .word-at .ensures) (8 * k + h) (omega arith)
+    ∙ ap (bit t) (omega arith) ∙ bit-at t (8 * i + k) h (omega arith))
 
 pub plane-byte-spec : {M : Type 1} → statement M
-plane-byte-spec =
-    tie.close
-    (tie.spec
-    Inv-loop
-    μ-loop
-    (λ c. unfold number in omega arith)
-    (λ c. omega arith)
-    (λ c. omega arith)
-    (λ c κs. omega arith)
-    (λ c. omega arith)
-    (λ c. omega arith)
-    (λ c. omega arith)
-    (λ c. omega arith)
-    (λ c. omega arith)
-    loop-again
-    returns)
+plane-byte-spec = tie.close (tie.spec (λ c. search needs) (λ c κs. search needs) (λ c κs. search needs) returns)

@@ -1,20 +1,16 @@
 -- `protocol::unit::step_mask` meets its contract: the reader decides, and gives the rows.
 -- Assumes nothing.
-use mathlib.Core.Path.{_≡_, refl, sym, ap, _∙_}
-use mathlib.Core.List.{List, _++_}
-use Prim.Native.Nat.{ℕ}
+use mathlib.Core.Path.{_≡_, refl, sym, _∙_}
+use mathlib.Core.List.{_++_}
 use borrow.Author.Needs.{needs}
 use borrow.Author.Tests.{eq-eqb, ne-eqb}
 use lib.ListN.{drop}
-use Rattle.linear.specs.Bits.{addBits}
-use Rattle.linear.specs.Trits.{innerShare}
-use Rattle.linear.specs.Products.{matrixProduct}
 use Rattle.matrix.specs.Number.{first}
 use Rattle.matrix.specs.File.{faults}
-use Rattle.protocol.specs.Base.{base}
 use Rattle.protocol.specs.Evaluator.{codeOf}
-use Rattle.protocol.specs.Frame.{terms, frame, bodyOf}
+use Rattle.protocol.specs.Frame.{bodyOf}
 use Rattle.protocol.specs.Unit.{shareOf, takeMask}
+use Rattle.protocol.specs.Exchange.{shareFrom}
 use Rattle.protocol.proofs.Files.{read-number, read-rows}
 use Rattle.protocol.proofs.Outcomes.{share-length, meets-refused}
 use Rattle.protocol.proofs.unit.step_mask.Statement.{statement}
@@ -39,7 +35,6 @@ returns-2 c =
     let a = s .args in
     let e : m .result ≡ first (faults (a .file .now)) = m .ensures .0 ∙ read-number (a .file .now) (s .pre .2) in
     let r = read-rows (a .file .now) _ (sym (m .ensures .0) ∙ i .if1 .left) (m .ensures .1 .0) in
-    let u = a .u in
     let l = share-length (a .u) (bodyOf (a .f .now)) (a .file .now) in
     rw (eq-eqb (first (faults (a .file .now))) 0 (sym e ∙ i .if1 .left))
     record {
@@ -47,8 +42,7 @@ returns-2 c =
       written-is = l;
       next-is = t .ensures .0;
       output-is =
-          t .ensures .1
-          ∙ (λ j. frame 4 (terms (u .side) (u .session)) (matrixProduct 11 32 81 (r j) (innerShare 32 (u .side) (addBits 32 (u .mask) (bodyOf (a .f .now))) (u .r))) ++ drop (l j) (a .out .now));
+          t .ensures .1 ∙ (λ j. shareFrom (a .u) (bodyOf (a .f .now)) (r j) ++ drop (l j) (a .out .now));
     }
 
 pub step-mask-spec : {M : Type 1} → statement M
