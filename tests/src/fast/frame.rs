@@ -1,0 +1,48 @@
+//! Frames: kinds, lengths and the header, read and written where they stand.
+
+use super::{part, part_mut};
+use crate::reference::frame::{length_of_kind, DEAL, MASK};
+use crate::reference::numbers::{FRAME_LENGTH, NO_KIND};
+
+pub(super) const HEADER: usize = 6;
+
+/// The session in a frame or a state of at least six bytes.
+#[inline(always)]
+pub(super) fn session(bytes: &[u8]) -> u32 {
+    u32::from_le_bytes(*part(bytes, 2))
+}
+
+/// Writes a header to the beginning of a frame or a state.
+#[inline(always)]
+pub(super) fn write_header(kind: u8, side: u8, session: u32, out: &mut [u8]) {
+    let [a, b, c, d] = session.to_le_bytes();
+    *part_mut(out, 0) = [kind, side, a, b, c, d];
+}
+
+/// 3 or 4 of a frame whose kind may be `lowest` to `highest`, or 0.
+#[inline(always)]
+pub(super) fn form_number(frame: &[u8], lowest: u8, highest: u8) -> u32 {
+    if frame.len() < HEADER || frame[0] < lowest || frame[0] > highest {
+        return NO_KIND;
+    }
+    if length_of_kind(frame[0]) != Some(frame.len()) {
+        return FRAME_LENGTH;
+    }
+    0
+}
+
+/// Whether a step reads the file.
+#[inline(always)]
+pub(super) fn reads_file(frame: &[u8]) -> bool {
+    frame.first() == Some(&MASK)
+}
+
+/// The side that a frame must name to a unit of this side.
+#[inline(always)]
+pub(super) fn expected_side(kind: u8, side: u8) -> u8 {
+    if kind == DEAL {
+        side
+    } else {
+        u8::from(side == 0)
+    }
+}

@@ -1,0 +1,48 @@
+//! The counter's join.
+
+use super::frame::{form_number, session, HEADER};
+use super::trits;
+use crate::reference::frame::{SHARE, SHARE_BYTES};
+use crate::reference::numbers::{OTHER_SESSION, OTHER_SIDE, UNFIT_TRIT, UNUSED_BIT, WRONG_LENGTH};
+
+/// The lower of two numbers, where 0 is none.
+#[inline(always)]
+fn lower(a: u32, b: u32) -> u32 {
+    if a == 0 || (b != 0 && b < a) {
+        b
+    } else {
+        a
+    }
+}
+
+/// The code of two share frames, side 0's first.
+#[inline(never)]
+pub fn join(share0: &[u8], share1: &[u8], out: &mut [u8]) -> u32 {
+    let Some(out) = out.first_chunk_mut() else {
+        return WRONG_LENGTH;
+    };
+    let number = lower(form_number(share0, SHARE, SHARE), form_number(share1, SHARE, SHARE));
+    if number != 0 {
+        return number;
+    }
+    let (Ok(a), Ok(b)) =
+        (<&[u8; SHARE_BYTES]>::try_from(share0), <&[u8; SHARE_BYTES]>::try_from(share1))
+    else {
+        return WRONG_LENGTH;
+    };
+    if session(a) != session(b) {
+        return OTHER_SESSION;
+    }
+    if a[1] != 0 || b[1] != 1 {
+        return OTHER_SIDE;
+    }
+    let (a, b) = (a[HEADER..].try_into().expect("a code"), b[HEADER..].try_into().expect("a code"));
+    if trits::both_bits(a) | trits::both_bits(b) != 0 {
+        return UNFIT_TRIT;
+    }
+    if trits::spare_bits(a) | trits::spare_bits(b) != 0 {
+        return UNUSED_BIT;
+    }
+    trits::add_code(a, b, out);
+    0
+}

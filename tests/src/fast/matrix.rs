@@ -1,0 +1,152 @@
+//! The matrix file: judged in one pass, and its rows multiplied where they
+//! stand. A file is public, so it may be branched on.
+
+use super::part;
+use super::rows::{bit_row_digit, row_digit, Digits};
+use super::trits::Vector;
+use crate::reference::matrix::{BLOCKS, BLOCK_BYTES, CHECK_AT, ROW_BYTES};
+use crate::reference::numbers::{BLOCK_CHECK, BLOCK_LAYOUT, UNFIT_TRIT, WRONG_LENGTH, ZERO_ROW};
+
+pub(super) const FILE_BYTES: usize = BLOCKS * BLOCK_BYTES;
+const ROWS_AT: usize = 4;
+const ROWS_OF_A_BLOCK: usize = 7;
+const ROWS_OF_THE_LAST: usize = 4;
+
+/// The two sums of half a block, no remainder taken: 16 columns of 16 bytes are
+/// added side by side. A byte in row g and column j of 16 rows counts 16 - g
+/// times in its column's second sum, and 16 (16 - g) - j times in the half's.
+#[inline(always)]
+fn half_sums(half: &[u8; 256]) -> (u32, u32) {
+    let (mut first, mut second) = ([0u16; 16], [0u16; 16]);
+    for row in half.chunks_exact(16) {
+        for j in 0..16 {
+            first[j] += u16::from(row[j]);
+            second[j] += first[j];
+        }
+    }
+    let (mut all, mut weighted) = (0, 0);
+    for j in 0..16 {
+        all += u32::from(first[j]);
+        // 255 is added to what j takes off.
+        weighted += 16 * u32::from(second[j]) + (255 - j as u32) * u32::from(first[j]);
+    }
+    (all, weighted)
+}
+
+/// Whether bytes 510 and 511 are not the check of the bytes before them. The
+/// sums are taken over all 512 bytes, and what the last two add is taken off;
+/// 256 is 1 modulo 255.
+#[inline(never)]
+fn bad_check(block: &[u8; BLOCK_BYTES]) -> bool {
+    let (first, weighted) = half_sums(part(block, 0));
+    let (last, last_weighted) = half_sums(part(block, 256));
+    let [a, b] = [block[CHECK_AT], block[CHECK_AT + 1]].map(u32::from);
+    let all = first + last - a - b;
+    let second = weighted + first + last_weighted + 3 * 255 + 253 * all - 2 * a - b;
+    all % 255 != a || second % 255 != b
+}
+
+/// Whether bytes 0 to 3 or unused bytes differ from the layout.
+#[inline(always)]
+fn bad_layout(block: &[u8; BLOCK_BYTES], number: usize, rows: usize) -> bool {
+    let unused = &block[ROWS_AT + ROW_BYTES * rows..CHECK_AT];
+    *part(block, 0) != [0x42, number as u8, rows as u8, 1]
+        || unused.iter().fold(0, |any, byte| any | byte) != 0
+}
+
+/// What is wrong with a file.
+#[derive(Default)]
+struct Faults {
+    check: bool,
+    layout: bool,
+    unfit: u64,
+    zero_row: bool,
+}
+
+impl Faults {
+    /// Judges a block, and hands on each of its rows with its number.
+    #[inline(always)]
+    fn judge(
+        &mut self,
+        block: &[u8; BLOCK_BYTES],
+        number: usize,
+        rows: usize,
+        visit: &mut impl FnMut(usize, Vector),
+    ) {
+        self.check |= bad_check(block);
+        self.layout |= bad_layout(block, number, rows);
+        for i in 0..rows {
+            let row = Vector::read(part(block, ROWS_AT + ROW_BYTES * i));
+            self.unfit |= row.both_bits();
+            self.zero_row |= is_zero(row);
+            visit(ROWS_OF_A_BLOCK * number + i, row);
+        }
+    }
+
+    /// The lowest number.
+    #[inline(always)]
+    fn number(&self) -> u32 {
+        match self {
+            Faults { check: true, .. } => BLOCK_CHECK,
+            Faults { layout: true, .. } => BLOCK_LAYOUT,
+            Faults { unfit: 1.., .. } => UNFIT_TRIT,
+            Faults { zero_row: true, .. } => ZERO_ROW,
+            _ => 0,
+        }
+    }
+}
+
+/// Whether a row is all zero: mostly its first word tells.
+#[inline(always)]
+fn is_zero(row: Vector) -> bool {
+    row.low[0] == 0 && (row.low.iter().chain(&row.high)).fold(0, |any, word| any | word) == 0
+}
+
+/// The number of a file, each of whose rows is handed on.
+#[inline(always)]
+fn pass(file: &[u8; FILE_BYTES], mut visit: impl FnMut(usize, Vector)) -> u32 {
+    let mut faults = Faults::default();
+    for number in 0..BLOCKS - 1 {
+        let block = part(file, BLOCK_BYTES * number);
+        faults.judge(block, number, ROWS_OF_A_BLOCK, &mut visit);
+    }
+    let last = part(file, BLOCK_BYTES * (BLOCKS - 1));
+    faults.judge(last, BLOCKS - 1, ROWS_OF_THE_LAST, &mut visit);
+    faults.number()
+}
+
+/// The number of a file, and its rows times a vector.
+#[inline(always)]
+pub(super) fn trit_rows(file: &[u8; FILE_BYTES], v: Vector) -> (u32, Digits) {
+    let mut digits = Digits::none();
+    let number = pass(file, |i, row| digits.set(i, row_digit(row, v)));
+    (number, digits)
+}
+
+/// The number of a file, and its rows times a vector of bits.
+#[inline(always)]
+pub(super) fn bit_rows(file: &[u8; FILE_BYTES], w: [u64; 4]) -> (u32, Digits) {
+    let mut digits = Digits::none();
+    let number = pass(file, |i, row| digits.set(i, bit_row_digit(row, w)));
+    (number, digits)
+}
+
+/// The number of a file, and its rows times two vectors.
+#[inline(always)]
+pub(super) fn rows_of_both(file: &[u8; FILE_BYTES], [v, w]: [Vector; 2]) -> (u32, [Digits; 2]) {
+    let mut digits = [Digits::none(), Digits::none()];
+    let number = pass(file, |i, row| {
+        digits[0].set(i, row_digit(row, v));
+        digits[1].set(i, row_digit(row, w));
+    });
+    (number, digits)
+}
+
+/// The matrix check: the number of a file.
+#[inline(never)]
+pub fn matrix_check(file: &[u8]) -> u32 {
+    match file.try_into() {
+        Ok(file) => pass(file, |_, _| {}),
+        Err(_) => WRONG_LENGTH,
+    }
+}
