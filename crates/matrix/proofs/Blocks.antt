@@ -37,12 +37,12 @@ unfolding check
 check-ext s t h = rw (firstSum-ext s t 510 h, secondSum-ext s t 510 h)
 
 -- the sums are 0 to 254, so a stored byte of 255 is never right
-firstSum-lt : (s : List ℕ) (n : ℕ) → firstSum s n < 255
+pub firstSum-lt : (s : List ℕ) (n : ℕ) → firstSum s n < 255
 unfolding firstSum
 firstSum-lt s zero = lit< tt
 firstSum-lt s (suc n) = omega arith
 
-secondSum-lt : (s : List ℕ) (n : ℕ) → secondSum s n < 255
+pub secondSum-lt : (s : List ℕ) (n : ℕ) → secondSum s n < 255
 unfolding secondSum
 secondSum-lt s zero = lit< tt
 secondSum-lt s (suc n) = omega arith

@@ -5,6 +5,8 @@ pub mod Parts
 pub mod Lanes
 pub mod Blocks
 pub mod Rows
+pub mod Runs
+pub mod Digits
 pub mod RoundTrip
 pub mod Outputs
 pub mod Examples

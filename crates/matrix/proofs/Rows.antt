@@ -2,8 +2,7 @@
 -- Assumes nothing.
 use mathlib.Core.Path.{_≡_, sym, ap, ap₂, _∙_}
 use mathlib.Core.List.{List}
-use mathlib.Core.Bool.{Bool, true, false, not}
-use Prim.Native.Nat.{ℕ, _+_, _-_, _*_, _/_, _%_, _<_, _≤_, min}
+use Prim.Native.Nat.{ℕ, _+_, _-_, _*_, _/_, _%_, _<_, _≤_}
 use native.Mathlib.Omega.{arith}
 use lib.Dec.{eqb, ltb}
 use lib.ListN.{length, getD, take, drop}
@@ -13,12 +12,12 @@ use Rattle.linear.specs.Trits.{trit, fitTrit, fitTrits, zeroTrit, zeroTrits}
 use Rattle.linear.proofs.Tables.{length-tabulate, getD-tabulate, small-tabulate, every-ext}
 use Rattle.linear.proofs.Strings.{bit-take}
 use Rattle.matrix.specs.Block.{rowsIn}
-use Rattle.matrix.specs.File.{matrixB, rowPlace, rowByte, rowsOf, rows, rowsHeld, heldBytes, fitRow, nonzeroRow}
-use Rattle.matrix.proofs.Parts.{length-part, getD-part, same-part, table-of}
+use Rattle.matrix.specs.File.{matrixB, rowPlace, rowByte, rowsOf, rows}
+use Rattle.matrix.proofs.Parts.{length-part, getD-part, table-of}
 
 -- ---- a test of a row reads no more than the row
 
-trit-take : (m : ℕ) (s : List ℕ) (j : ℕ) → j < 8 * m → trit m (take (2 * m) s) j ≡ trit m s j
+pub trit-take : (m : ℕ) (s : List ℕ) (j : ℕ) → j < 8 * m → trit m (take (2 * m) s) j ≡ trit m s j
 unfolding trit
 trit-take m s j l =
     ap₂ (λ (x y : ℕ). x + 2 * y) (bit-take (2 * m) s j (omega arith)) (bit-take (2 * m) s (8 * m + j) (omega arith))
@@ -33,17 +32,6 @@ unfolding zeroTrits
 zero-take m s =
     every-ext (8 * m - 0) (zeroTrit m 0 (take (2 * m) s)) (zeroTrit m 0 s)
     (λ j l. ap (λ (x : ℕ). eqb x 0) (trit-take m s (0 + j) (omega arith)))
-
--- row i of 81, as the slice that a test gets
-module _ (set : List ℕ) (long : length set ≡ 5184) (i : ℕ) (l : i < 81) where
-  long-row : length (take 64 (drop (64 * i) set)) ≡ 64
-  long-row = length-part 64 (64 * i) set (omega arith)
-
-  pub fit-row : (row : List ℕ) → row ≡ take 64 (drop (64 * i) set) → fitTrits (length row / 2) (min 256 (8 * (length row / 2))) row ≡ fitRow matrixB set i
-  fit-row row e = rw (e, long-row) (fit-take 32 256 (drop (64 * i) set) (omega arith))
-
-  pub zero-row : (row : List ℕ) → row ≡ take 64 (drop (64 * i) set) → not (zeroTrits (length row / 2) 0 row) ≡ nonzeroRow matrixB set i
-  zero-row row e = rw (e, long-row) (ap not (zero-take 32 (drop (64 * i) set)))
 
 -- ---- where the rows of a file stand
 
@@ -60,10 +48,6 @@ bytes-rows file h =
       small = small-tabulate 5184 (rowByte matrixB file) (λ k. h (rowPlace matrixB (k / 64) + k % 64));
     }
 
-pub length-held : (inBlocks : Bool) (s : List ℕ) → length s ≡ heldBytes inBlocks → length (rowsHeld inBlocks s) ≡ 5184
-length-held true s h = length-rows s
-length-held false s h = h
-
 -- byte 448b + k of the rows is byte 4 + k of block b
 pub row-byte : (file : List ℕ) (b k : ℕ) → k < 448 → rowByte matrixB file (448 * b + k) ≡ getD file (512 * b + 4 + k) 0
 row-byte file b k l = ap (λ (i : ℕ). getD file i 0) (omega arith)
@@ -71,15 +55,6 @@ row-byte file b k l = ap (λ (i : ℕ). getD file i 0) (omega arith)
 pub getD-rows : (file : List ℕ) (b k : ℕ) → k < 448 → 448 * b + k < 5184 → getD (rows file) (448 * b + k) 0 ≡ getD file (512 * b + 4 + k) 0
 unfolding rows rowsOf
 getD-rows file b k l h = getD-tabulate 5184 (rowByte matrixB file) (448 * b + k) h ∙ row-byte file b k l
-
--- row i of a file
-pub row-place : (file : List ℕ) (i : ℕ) → length file ≡ 6144 → i < 81
-    → take 64 (drop (512 * (i / 7) + 4 + 64 * (i % 7)) file) ≡ take 64 (drop (64 * i) (rows file))
-row-place file i h l =
-    same-part 64 (512 * (i / 7) + 4 + 64 * (i % 7)) (64 * i) file (rows file) (omega arith) (omega (arith, length-rows file))
-    (λ k q. ap (λ (j : ℕ). getD file j 0) {y = 512 * (i / 7) + 4 + (64 * (i % 7) + k)} (omega arith)
-    ∙ sym (getD-rows file (i / 7) (64 * (i % 7) + k) (omega arith) (omega arith))
-    ∙ ap (λ (j : ℕ). getD (rows file) j 0) (omega arith))
 
 -- the rows in block b are the next of the rows
 pub rows-part : (file : List ℕ) (b : ℕ) → length file ≡ 6144 → b < 12

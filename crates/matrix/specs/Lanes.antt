@@ -1,7 +1,8 @@
 -- What contracts of private functions say of the sums of a block, which the code takes by words: no public contract cites this file.
-use Prim.Native.Nat.{ℕ, _+_, _*_, _/_, _%_, _^_, _<_, _≤_}
+use Prim.Native.Nat.{ℕ, zero, suc, _+_, _*_, _/_, _%_, _^_, _<_, _≤_}
 use mathlib.Core.Path.{_≡_}
 use mathlib.Core.List.{List}
+use lib.Bits.{bitAnd}
 use Rattle.matrix.specs.Block.{firstSum, secondSum}
 
 -- r is x modulo 255, and shorter
@@ -19,28 +20,50 @@ pub record Sums (s : List ℕ) (i x y : ℕ) : Type 0 where
   pub first-is : x % 255 ≡ firstSum s i
   pub second-is : y % 255 ≡ secondSum s i
 
--- and small enough to add to
-pub record Deferred (s : List ℕ) (i x y : ℕ) : Type 0 where
-  pub sums : Sums s i x y
-  pub first-small : x ≤ 2 ^ 25 * i
-  pub second-small : y ≤ 2 ^ 34 * i
+-- lanes with one word more
+pub record More (x pairs odd ahead pairs′ odd′ ahead′ : ℕ) : Type 0 where
+  pub pairs-is : pairs′ ≡ pairs + (bitAnd x 0x00ff00ff00ff00ff + bitAnd (x / 2 ^ 8) 0x00ff00ff00ff00ff)
+  pub odd-is : odd′ ≡ odd + bitAnd (x / 2 ^ 8) 0x00ff00ff00ff00ff
+  pub ahead-is : ahead′ ≡ ahead + pairs
 
--- the four lanes of `pairs` after i bytes, none full
-pub record Split (i pairs a b c d : ℕ) : Type 0 where
+-- the four lanes of `pairs` after n words, none full
+pub record Split (n pairs a b c d : ℕ) : Type 0 where
   pub pairs-is : pairs ≡ a + 65536 * (b + 65536 * (c + 65536 * d))
-  pub a-small : a ≤ 64 * i
-  pub b-small : b ≤ 64 * i
-  pub c-small : c ≤ 64 * i
-  pub d-small : d ≤ 64 * i
+  pub a-small : a ≤ 510 * n
+  pub b-small : b ≤ 510 * n
+  pub c-small : c ≤ 510 * n
+  pub d-small : d ≤ 510 * n
 
--- the two sums of i bytes, from lanes
-pub data LaneSums : List ℕ → ℕ → ℕ → ℕ → ℕ → Type 0 where
-  lane-sums : {s : List ℕ} {i pairs odd ahead : ℕ} (a b c d : ℕ) → Split i pairs a b c d
-      → Sums s i pairs (8 * ahead + (8 * a + 6 * b + 4 * c + 2 * d) + 254 * odd) → LaneSums s i pairs odd ahead
+-- lanes of n words: f is the sum of their bytes, w has each byte as often as there are places from it on in its word,
+-- h has each byte once for each word after its own
+pub data Column : ℕ → ℕ → ℕ → ℕ → ℕ → ℕ → ℕ → Type 0 where
+  column : {n pairs odd ahead f w h : ℕ} (a b c d o : ℕ) → Split n pairs a b c d → f ≡ a + b + c + d
+      → w + o ≡ 8 * a + 6 * b + 4 * c + 2 * d → odd % 255 ≡ o % 255 → ahead % 255 ≡ h % 255 → Column n pairs odd ahead f w h
 
--- and small enough to add a word to
-pub record InLanes (s : List ℕ) (i pairs odd ahead : ℕ) : Type 0 where
-  pub sums : LaneSums s i pairs odd ahead
-  pub pairs-small : pairs ≤ 2 ^ 55 * i
-  pub odd-small : odd ≤ 2 ^ 53 * i
-  pub ahead-small : ahead ≤ 2 ^ 30 * i
+-- the two sums of i bytes, from the lanes of two columns
+pub data Two : List ℕ → ℕ → ℕ → ℕ → ℕ → ℕ → ℕ → ℕ → Type 0 where
+  two : {s : List ℕ} {i p o a q r b : ℕ} (f w h g v k : ℕ) → Column (i / 16) p o a f w h → Column (i / 16) q r b g v k
+      → Sums s i (f + g) (16 * (h + k) + w + 8 * f + v) → Two s i p o a q r b
+
+-- 0 + 1 + .. + (n - 1)
+unfoldable pub triangle : ℕ → ℕ
+triangle zero = 0
+triangle (suc n) = triangle n + n
+
+-- lanes of n words, small enough to add a word to
+pub record Small (n pairs odd ahead : ℕ) : Type 0 where
+  pub pairs-small : pairs ≤ 0x01fe01fe01fe01fe * n
+  pub odd-small : odd ≤ 0x00ff00ff00ff00ff * n
+  pub ahead-small : ahead ≤ 0x01fe01fe01fe01fe * triangle n
+
+-- the lanes of both columns after i bytes
+pub record InColumns (s : List ℕ) (i p o a q r b : ℕ) : Type 0 where
+  pub sums : Two s i p o a q r b
+  pub left-small : Small (i / 16) p o a
+  pub right-small : Small (i / 16) q r b
+
+-- x and y are the two sums of any 256 bytes that have these lanes, and small enough to add up
+pub record SumsOf (p o a q r b x y : ℕ) : Type 0 where
+  pub sums : (s : List ℕ) → Two s 256 p o a q r b → Sums s 256 x y
+  pub first-small : x < 2 ^ 34
+  pub second-small : y < 2 ^ 43

@@ -2,3 +2,5 @@ pub mod Number
 pub mod Block
 pub mod Lanes
 pub mod File
+pub mod Product
+pub mod Runs

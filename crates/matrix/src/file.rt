@@ -6,12 +6,14 @@ ghost use Prim.Native.Nat.{_+_, _-_, _*_, _<_, _≤_};
 ghost use lib.ListN.{length, take, drop};
 ghost use Rattle.matrix.specs.Number.{first};
 ghost use Rattle.matrix.specs.Block.{rowsIn};
-ghost use Rattle.matrix.specs.File.{matrixB, block, fileBytes, rowsBytes, rows, fileOf, rowsHeld, heldBytes, badCheck, badLayout, badTritRows, zeroRowRows, faults, rowFaults, checkNumber, readNumber, writeNumber, readOutput, writeOutput, Survives, Restores};
+ghost use Rattle.matrix.specs.Runs.{runNumber};
+ghost use Rattle.matrix.specs.File.{matrixB, block, fileBytes, rowsBytes, rows, fileOf, rowsHeld, heldBytes, badCheck, badLayout, faults, rowFaults, checkNumber, readNumber, writeNumber, readOutput, writeOutput, Survives, Restores};
 use crate::block::block_of;
 use crate::block::check_holds;
 use crate::block::laid_out;
 use crate::block::put;
 use crate::block::rows_in;
+use crate::block::rows_of_block;
 use linear::trits::row_is_zero;
 use linear::trits::trits_fit;
 
@@ -56,62 +58,80 @@ fn bad_layout(file: &[u8]) -> bool
     false
 }
 
-// Row `i`, in the blocks of a file or in a set of rows.
-fn row_at(s: &[u8], in_blocks: bool, i: usize) -> &[u8]
-    requires { ⌜ (length (now s) ≡ heldBytes «in_blocks») × (i < 81) ⌝ }
-    ensures { λ r. ⌜ now r ≡ take 64 (drop (64 * i) (rowsHeld «in_blocks» (now (s .entry)))) ⌝ }
+// Row `i` of rows one after the other.
+fn row_of(rows: &[u8], i: usize) -> &[u8]
+    requires { ⌜ 64 * i + 64 ≤ length (now rows) ⌝ }
+    ensures { λ r. ⌜ now r ≡ take 64 (drop (64 * i) (now (rows .entry))) ⌝ }
 {
-    if in_blocks {
-        let at = 512 * (i / 7) + 4 + 64 * (i % 7);
-        return &s[at..at + 64];
-    }
     let at = 64 * i;
-    &s[at..at + 64]
+    &rows[at..at + 64]
 }
 
-// Whether a trit has both bits set.
-fn bad_trit(s: &[u8], in_blocks: bool) -> bool
-    requires { ⌜ length (now s) ≡ heldBytes «in_blocks» ⌝ }
-    ensures { λ r. ⌜ r ≡ badTritRows (rowsHeld «in_blocks» (now (s .entry))) ⌝ }
+// The number of one row.
+fn row_number(row: &[u8]) -> u32
+    requires { ⌜ length (now row) ≡ 64 ⌝ }
+    ensures { λ r. ⌜ r ≡ runNumber 1 (now (row .entry)) ⌝ }
 {
-    let mut i: usize = 0;
-    while i < 81 {
-        if trits_fit(row_at(s, in_blocks, i), 256) {
-            i += 1;
-        } else {
-            return true;
+    if trits_fit(row, 256) {
+        if row_is_zero(row) {
+            return 12;
         }
+        return 0;
     }
-    false
+    10
 }
 
-// Whether a row is all zero.
-fn zero_row(s: &[u8], in_blocks: bool) -> bool
-    requires { ⌜ length (now s) ≡ heldBytes «in_blocks» ⌝ }
-    ensures { λ r. ⌜ r ≡ zeroRowRows (rowsHeld «in_blocks» (now (s .entry))) ⌝ }
+// The number of `n` rows one after the other. A trit with both bits set comes before a zero row, wherever they stand, so it ends the loop.
+fn run_number(rows: &[u8], n: usize) -> u32
+    requires { ⌜ length (now rows) ≡ 64 * n ⌝ }
+    ensures { λ r. ⌜ r ≡ runNumber n (now (rows .entry)) ⌝ }
 {
+    let mut number: u32 = 0;
     let mut i: usize = 0;
-    while i < 81 {
-        if row_is_zero(row_at(s, in_blocks, i)) {
-            return true;
+    while i < n {
+        let of_row = row_number(row_of(rows, i));
+        if of_row == 10 {
+            return 10;
+        }
+        if of_row != 0 {
+            number = of_row;
         }
         i += 1;
     }
-    false
+    number
 }
 
-// The number of 81 rows.
+// The rows of block `b`, in the blocks of a file or in a set of rows.
+fn rows_at(s: &[u8], in_blocks: bool, b: usize) -> &[u8]
+    requires { ⌜ (length (now s) ≡ heldBytes «in_blocks») × (b < 12) ⌝ }
+    ensures { λ r. ⌜ now r ≡ take (64 * rowsIn matrixB b) (drop (64 * (7 * b)) (rowsHeld «in_blocks» (now (s .entry)))) ⌝ }
+{
+    if in_blocks {
+        return rows_of_block(s, b);
+    }
+    let at = 448 * b;
+    let end = at + 64 * rows_in(b);
+    &s[at..end]
+}
+
+// The number of 81 rows, block by block. A set of rows goes the same way, so that `run_number` is called, and compiled, in one place.
 fn rows_number(s: &[u8], in_blocks: bool) -> u32
     requires { ⌜ length (now s) ≡ heldBytes «in_blocks» ⌝ }
     ensures { λ r. ⌜ r ≡ first (rowFaults (rowsHeld «in_blocks» (now (s .entry)))) ⌝ }
 {
-    if bad_trit(s, in_blocks) {
-        return 10;
+    let mut number: u32 = 0;
+    let mut b: usize = 0;
+    while b < 12 {
+        let of_block = run_number(rows_at(s, in_blocks, b), rows_in(b));
+        if of_block == 10 {
+            return 10;
+        }
+        if of_block != 0 {
+            number = of_block;
+        }
+        b += 1;
     }
-    if zero_row(s, in_blocks) {
-        return 12;
-    }
-    0
+    number
 }
 
 // The number of a file of the right length: a check over all blocks before any layout, and so on.
@@ -137,16 +157,6 @@ pub extern "C" fn matrix_check(file: &[u8]) -> u32
         return 1;
     }
     file_number(file)
-}
-
-// The rows in block `b` of a file.
-fn rows_of_block(file: &[u8], b: usize) -> &[u8]
-    requires { ⌜ (length (now file) ≡ fileBytes) × (b < 12) ⌝ }
-    ensures { λ r. ⌜ now r ≡ take (64 * rowsIn matrixB b) (drop (512 * b + 4) (now (file .entry))) ⌝ }
-{
-    let at = 512 * b + 4;
-    let end = at + 64 * rows_in(b);
-    &file[at..end]
 }
 
 // Writes the rows of a file.

@@ -13,7 +13,7 @@ use Rattle.linear.specs.Trits.{low, high, packTrits, bitTrits}
 use Rattle.linear.proofs.Strings.{bit-lt, bit-zeros, pack-ext, pack-bits, bytes-zeros}
 use Rattle.linear.proofs.Linearity.{bytes-matrix}
 use Rattle.matrix.specs.Number.{first}
-use Rattle.matrix.specs.File.{readNumber}
+use Rattle.matrix.specs.File.{checkNumber}
 use Rattle.protocol.specs.Base.{base}
 use Rattle.protocol.specs.Evaluator.{codeOf, code, evaluateConditions, evaluateNumber}
 
@@ -44,9 +44,9 @@ module _ (key label file : List ℕ) (n : ℕ) where
         pick true = refl
         pick false = refl
 
-    -- else the reader's number is the evaluator's
-    pub file-decides : length label ≡ 32 → 22 ≤ n → readNumber file 5184 ≡ evaluateNumber base key label file n
-    unfolding first evaluateConditions readNumber
+    -- else the check's number is the evaluator's
+    pub file-decides : length label ≡ 32 → 22 ≤ n → checkNumber file ≡ evaluateNumber base key label file n
+    unfolding first evaluateConditions checkNumber
     file-decides l h = simp (eq-eqb (length key) 32 k, eq-eqb (length label) 32 l, le-ltb n 22 h)
 
 -- the 22 bytes of the code

@@ -24,7 +24,7 @@ use Rattle.protocol.specs.Dealer.{dealFrame, dealt, dealConditions, deal
 use Rattle.protocol.specs.Unit.{Stepped, Beginning, begin, step, shareOf, takeMask, advance}
 use Rattle.protocol.specs.Join.{joined}
 use Rattle.protocol.specs.Run.{Inputs, WellFormed}
-use Rattle.protocol.specs.Exchange.{padded, Sends, RunFits, inputRows, shareFrom}
+use Rattle.protocol.specs.Exchange.{padded, Sends, RunFits, shareFrom}
 use Rattle.protocol.specs.Interface.{inputKey, inputLabel, inputTape, inputFile, runCode}
 use Rattle.protocol.proofs.Fields.{two-fields}
 use Rattle.protocol.proofs.Outcomes.{length-frame}
@@ -134,12 +134,12 @@ module _ (input : List ℕ) (n : ℕ) (f : RunFits input n) (small : (i : ℕ) �
       (accepts-mask base base-linear given tape well accepted-tape i (inputFile input) 70 (lit≤ tt) (λ t. refl)))
 
   -- and what it writes is made of the rows alone
-  pub share-is : (i : Side) (u : UnitState) (g r sent : List ℕ) → u ≡ unit i 2 → g ≡ incoming base given tape i 2 → r ≡ inputRows input
-      → sent ≡ shareFrom u (bodyOf g) r → sent ≡ shareFrameOf base given tape i
+  pub share-is : (i : Side) (u : UnitState) (g file sent : List ℕ) → u ≡ unit i 2 → g ≡ incoming base given tape i 2 → file ≡ inputFile input
+      → sent ≡ shareFrom u (bodyOf g) file → sent ≡ shareFrameOf base given tape i
   unfolding outgoing takeMask shareOf codeOf
-  share-is i u g r sent eu eg er e =
+  share-is i u g file sent eu eg ef e =
       e
-      ∙ (λ j. shareFrom (eu j) (bodyOf (eg j)) (er j))
+      ∙ (λ j. shareFrom (eu j) (bodyOf (eg j)) (ef j))
       ∙ ap (λ (t : Stepped). t .written) (takes-mask i ∙ takes i 2 (lit< tt) (unit i 2) (incoming base given tape i 2) refl refl)
 
   -- and their join is the code

@@ -32,14 +32,10 @@ pub record RunFits (input : List ℕ) (room : ℕ) : Type 0 where
   pub file : checkNumber (inputFile input) ≡ 0
   pub tape : fitTrits 32 256 (r0 base (inputTape input)) ≡ true
 
--- the rows of its file
-abbrev pub inputRows : List ℕ → List ℕ
-inputRows input = rows (inputFile input)
-
--- the share frame of a unit that takes the other's mask, of the rows of the file
+-- the share frame of a unit that takes the other's mask, of the rows of a file
 abbrev pub shareFrom : UnitState → List ℕ → List ℕ → List ℕ
-shareFrom u body rows =
-    frame shareKind (termsOf u) (matrixProduct 11 32 81 rows (innerShare 32 (u .side) (addBits 32 (u .mask) body) (u .r)))
+shareFrom u body file =
+    frame shareKind (termsOf u) (matrixProduct 11 32 81 (rows file) (innerShare 32 (u .side) (addBits 32 (u .mask) body) (u .r)))
 
 -- a step over the state in slice s: its number, both slices and the count afterwards
 pub record HeldMeets (s f file old : List ℕ) (result : ℕ) (s′ new : List ℕ) (count : ℕ) : Type 0 where

@@ -2,25 +2,15 @@
 ghost use mathlib.Core.Path.{_≡_};
 ghost use lib.ListN.{length};
 ghost use Rattle.linear.specs.Trits.{bitTrits};
-ghost use Rattle.linear.specs.Products.{circulantProduct, matrixProduct};
-ghost use Rattle.matrix.specs.Number.{first, output};
-ghost use Rattle.matrix.specs.File.{rows, readNumber};
+ghost use Rattle.linear.specs.Products.{circulantProduct};
+ghost use Rattle.matrix.specs.Number.{output};
 ghost use Rattle.protocol.specs.Base.{base};
 ghost use Rattle.protocol.specs.Evaluator.{code, evaluateNumber};
 use crate::bytes::array_32;
 use crate::bytes::product_32;
 use crate::bytes::put;
-use linear::products::matrix_product;
-use matrix::file::matrix_read;
-
-// The first 81 rows times an inner vector of trits, modulo 3.
-pub fn code_of(rows: &[u8], v: [u8; 64]) -> [u8; 22]
-    ensures { λ r. ⌜ r ≡ matrixProduct 11 32 81 (now (rows .entry)) v ⌝ }
-{
-    let mut code = [0u8; 22];
-    matrix_product(rows, &v, 81, &mut code);
-    code
-}
+use matrix::file::matrix_check;
+use matrix::product::file_product;
 
 // The inner vector of a key and a label, as trits: its bits are the low plane.
 fn inner_vector(key: &[u8], label: &[u8]) -> [u8; 64]
@@ -50,12 +40,11 @@ pub fn evaluate(key: &[u8], label: &[u8], file: &[u8], out: &mut [u8]) -> u32
     if out.len() < 22 {
         return 1;
     }
-    let mut rows = [0u8; 5184];
-    let number = matrix_read(file, &mut rows);
+    let number = matrix_check(file);
     if number != 0 {
         return number;
     }
-    let code = code_of(&rows, inner_vector(key, label));
+    let code = file_product(file, inner_vector(key, label));
     put(&code, out, 0);
     0
 }

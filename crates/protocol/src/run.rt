@@ -1,5 +1,5 @@
 // What the program does as one call: the dealer and both units in session 1, frame by frame, and the counter's sum. What must be
-// accepted is not judged again: the file is read once, and no branch depends on the shares.
+// accepted is not judged again: the file is checked once, and no branch depends on the shares.
 ghost use mathlib.Core.Path.{_≡_};
 ghost use mathlib.Core.List.{[]};
 ghost use mathlib.Core.Bool.{true, cond};
@@ -13,7 +13,7 @@ ghost use Rattle.protocol.specs.Tape.{r0};
 ghost use Rattle.protocol.specs.Dealer.{dealFrame};
 ghost use Rattle.protocol.specs.Unit.{begin, step};
 ghost use Rattle.protocol.specs.Frame.{bodyOf};
-ghost use Rattle.protocol.specs.Exchange.{Sends, RunFits, inputRows, shareFrom};
+ghost use Rattle.protocol.specs.Exchange.{Sends, RunFits, shareFrom};
 ghost use Rattle.protocol.specs.Interface.{inputKey, inputLabel, inputTape, inputFile, runNumber, runCode};
 use crate::dealer::deal;
 use crate::join::add_shares;
@@ -21,7 +21,7 @@ use crate::state::UnitState;
 use crate::unit::begin;
 use crate::unit::take_mask;
 use linear::trits::trits_fit;
-use matrix::file::matrix_read;
+use matrix::file::matrix_check;
 
 // What a unit sends, in the front of 70 bytes, and the unit afterwards.
 struct Sent {
@@ -118,28 +118,30 @@ fn first_round(input: &[u8]) -> Round
     }
 }
 
-// A unit's share frame: what its step writes at the mask frame in the front of what the other has sent, of the rows of the file.
-fn share_frame(u: UnitState, sent: [u8; 70], rows: &[u8]) -> [u8; 28]
-    ensures { λ r. ⌜ r ≡ shareFrom u (bodyOf (take 38 sent)) (now (rows .entry)) ⌝ }
+// A unit's share frame: what its step writes at the mask frame in the front of what the other has sent.
+fn share_frame(u: UnitState, sent: [u8; 70], file: &[u8]) -> [u8; 28]
+    requires { ⌜ length (now file) ≡ 6144 ⌝ }
+    ensures { λ r. ⌜ r ≡ shareFrom u (bodyOf (take 38 sent)) (now (file .entry)) ⌝ }
 {
     let mut frame = [0u8; 28];
-    take_mask(u, &sent[0..38], rows, &mut frame);
+    take_mask(u, &sent[0..38], file, &mut frame);
     frame
 }
 
-// Runs both units on an input that fits, with the rows of its file, and adds their shares.
-fn run_units(input: &[u8], rows: &[u8], out: &mut [u8])
-    requires { ⌜ RunFits (now input) (length (now out)) × (now rows ≡ inputRows (now input)) ⌝ }
+// Runs both units on an input that fits, and adds their shares.
+fn run_units(input: &[u8], out: &mut [u8])
+    requires { ⌜ RunFits (now input) (length (now out)) ⌝ }
     ensures { λ _. ⌜ now (out .exit) ≡ output 0 (runCode (now (input .entry))) (now (out .entry)) ⌝ }
 {
+    let file = &input[384..6528];
     let one = first_round(input);
-    let two = exchange(one, &input[384..6528]);
+    let two = exchange(one, file);
     let mask0 = two.frame0;
     let mask1 = two.frame1;
     let unit0 = two.next0;
     let unit1 = two.next1;
-    let share0 = share_frame(unit0, mask1, rows);
-    let share1 = share_frame(unit1, mask0, rows);
+    let share0 = share_frame(unit0, mask1, file);
+    let share1 = share_frame(unit1, mask0, file);
     add_shares(&share0, &share1, out);
 }
 
@@ -153,11 +155,9 @@ fn with_unfit_tape(number: u32) -> u32
     if number == 9 { 9 } else { 10 }
 }
 
-// The lowest number over all of the input. Where it is 0, the rows of its file are written.
-fn run_number(input: &[u8], room: usize, rows: &mut [u8]) -> u32
-    requires { ⌜ length (now rows) ≡ 5184 ⌝ }
-    ensures result { λ r. ⌜ r ≡ runNumber (now (input .entry)) room ⌝ }
-    ensures written { λ r. ⌜ (r ≡ 0 → now (rows .exit) ≡ inputRows (now (input .entry))) ⌝ }
+// The lowest number over all of the input.
+fn run_number(input: &[u8], room: usize) -> u32
+    ensures { λ r. ⌜ r ≡ runNumber (now (input .entry)) room ⌝ }
 {
     if input.len() != 6528 {
         return 1;
@@ -165,7 +165,7 @@ fn run_number(input: &[u8], room: usize, rows: &mut [u8]) -> u32
     if room < 22 {
         return 1;
     }
-    let number = matrix_read(&input[384..6528], rows);
+    let number = matrix_check(&input[384..6528]);
     if trits_fit(&input[320..384], 256) {
         return number;
     }
@@ -178,11 +178,10 @@ pub extern "C" fn pair_run(input: &[u8], out: &mut [u8]) -> u32
     ensures result { λ r. ⌜ r ≡ runNumber (now (input .entry)) (length (now (out .entry))) ⌝ }
     ensures written { λ r. ⌜ now (out .exit) ≡ output r (runCode (now (input .entry))) (now (out .entry)) ⌝ }
 {
-    let mut rows = [0u8; 5184];
-    let number = run_number(input, out.len(), &mut rows);
+    let number = run_number(input, out.len());
     if number != 0 {
         return number;
     }
-    run_units(input, &rows, out);
+    run_units(input, out);
     0
 }

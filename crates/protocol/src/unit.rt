@@ -19,7 +19,6 @@ use crate::bytes::array_64;
 use crate::bytes::join_32;
 use crate::bytes::product_32;
 use crate::bytes::sum_32;
-use crate::evaluator::code_of;
 use crate::frame::Header;
 use crate::frame::MASK;
 use crate::frame::OPEN;
@@ -32,7 +31,8 @@ use crate::state::cleared;
 use crate::state::with_halves;
 use linear::trits::inner_share;
 use linear::trits::trits_fit;
-use matrix::file::matrix_read;
+use matrix::file::matrix_check;
+use matrix::product::file_product;
 
 // What a beginning returns and gives.
 pub struct Begun {
@@ -287,17 +287,17 @@ fn step_open(u: UnitState, f: &[u8], out: &mut [u8]) -> Stepped
 }
 
 // It takes the other's mask frame, writes its share frame and is done.
-pub(crate) fn take_mask(u: UnitState, f: &[u8], rows: &[u8], out: &mut [u8]) -> UnitState
-    requires { ⌜ (length (now f) ≡ 38) × (28 ≤ length (now out)) ⌝ }
+pub(crate) fn take_mask(u: UnitState, f: &[u8], file: &[u8], out: &mut [u8]) -> UnitState
+    requires { ⌜ (length (now f) ≡ 38) × (28 ≤ length (now out)) × (length (now file) ≡ 6144) ⌝ }
     ensures next { λ r. ⌜ r ≡ done base (terms (u .side) (u .session)) ⌝ }
-    ensures output { λ _. ⌜ now (out .exit) ≡ shareFrom u (bodyOf (now (f .entry))) (now (rows .entry)) ++ drop 28 (now (out .entry)) ⌝ }
+    ensures output { λ _. ⌜ now (out .exit) ≡ shareFrom u (bodyOf (now (f .entry))) (now (file .entry)) ++ drop 28 (now (out .entry)) ⌝ }
 {
     let mask = u.mask;
     let r = u.r;
     let w = sum_32(mask, array_32(f, 6));
     let mut inner = [0u8; 64];
     inner_share(u.side, &w, &r, &mut inner);
-    let share = code_of(rows, inner);
+    let share = file_product(file, inner);
     write_frame(4, u.side, u.session, &share, out);
     cleared(u.side, u.session, 4)
 }
@@ -311,12 +311,11 @@ fn step_mask(u: UnitState, f: &[u8], file: &[u8], out: &mut [u8]) -> Stepped
         (r .result) (r .written) (r .next) (now (out .entry)) (now (out .exit))
         ⌝ }
 {
-    let mut rows = [0u8; 5184];
-    let number = matrix_read(file, &mut rows);
+    let number = matrix_check(file);
     if number != 0 {
         return refuse(number, u);
     }
-    let next = take_mask(u, f, &rows, out);
+    let next = take_mask(u, f, file, out);
     Stepped {
         result: 0,
         written: SHARE,

@@ -1,48 +1,58 @@
--- `matrix::block::sums` meets its contract. The invariant of its loop: `first` and `second` are the sums of the first i bytes, with the remainder still to be taken.
+-- `matrix::block::sums` meets its contract. The sums of two groups are those of 512 bytes, of which the last two are taken off again.
 -- Assumes nothing.
-use mathlib.Core.Path.{_≡_, ap₂}
+use mathlib.Core.Path.{ap₂}
 use mathlib.Core.List.{[], _∷_}
-use Prim.Native.Nat.{ℕ, _-_, _≤_}
-use native.Mathlib.Omega.{arith}
+use Prim.Native.Nat.{ℕ}
+use borrow.Author.Needs.{needs}
 use Rattle.matrix.specs.Block.{check}
-use Rattle.matrix.specs.Lanes.{Deferred}
-use Rattle.matrix.proofs.Lanes.{deferred-more}
+use Rattle.matrix.proofs.Lanes.{check-sums}
 use Rattle.matrix.proofs.block.sums.Statement.{statement}
 use Rattle.matrix.proofs.block.sums.Tie as tie
 
-abbrev Inv-loop : tie.InvT-loop
-Inv-loop block first₀ second₀ i₀ first second i = (i ≤ 510) × Deferred block i first second
-
-abbrev μ-loop : tie.MeasureT-loop
-μ-loop block first₀ second₀ i₀ first second i = 510 - i
-
-loop-again : tie.Need-loop-again Inv-loop μ-loop
-loop-again c =
-    let l = c .before .before .before in
-    (omega arith, deferred-more (l .loop .inv .1) (omega arith) (omega (arith, c .before .shared-slice-known2 .given (l .loop .i))) (c .wide .ensures))
-
-returns : tie.Need-returns Inv-loop μ-loop
+returns : tie.Need-returns
 unfolding check
 returns c =
-    let e : c .before .loop .i ≡ 510 = omega arith in
-    let h = rw e at (c .before .loop .inv .1 .sums) in
+    let q = c .before .before .before .before .before in
+    let p = q .before .before in
+    let b = p .before .before in
+    let a = b .before .before .before in
+    let h =
+    check-sums (a .group-sums .ensures .sums _ (a .before .group .ensures .sums)) (b .group-sums2 .ensures .sums _ (b .before .group2 .ensures .sums))
+    (p .wide .ensures .0) (q .wide2 .ensures .0)
+    in
     ap₂ (λ (x y : ℕ). x ∷ y ∷ []) (h .first-is) (h .second-is)
 
 pub sums-spec : {M : Type 1} → statement M
 sums-spec =
     tie.close
     (tie.spec
-    Inv-loop
-    μ-loop
-    (λ c κs. omega arith)
-    (λ c. (omega arith, c .word-sums .ensures))
-    (λ c. omega arith)
-    (λ c κs. omega arith)
-    (λ c. omega (arith, c .before .shared-slice-known2 .given (c .before .before .before .loop .i)))
-    (λ c. omega (arith, c .before .shared-slice-known2 .given (c .before .before .before .loop .i)))
-    (λ c. omega arith)
-    (λ c. omega arith)
-    loop-again
-    (λ c. omega arith)
-    (λ c. omega arith)
+    (λ c. search needs)
+    (λ c. search needs)
+    (λ c. search needs)
+    (λ c κs. search needs)
+    (λ c κs. search needs)
+    (λ c. search needs)
+    (λ c. search needs)
+    (λ c. search needs)
+    (λ c κs. search needs)
+    (λ c κs. search needs)
+    (λ c. search needs)
+    (λ c κs. search needs)
+    (λ c. search needs)
+    (λ c κs. search needs)
+    (λ c. search needs)
+    (λ c. search needs)
+    (λ c. search needs)
+    (λ c. search needs)
+    (λ c. search needs)
+    (λ c. search needs)
+    (λ c. search needs)
+    (λ c. search needs)
+    (λ c. search needs)
+    (λ c. search needs)
+    (λ c. search needs)
+    (λ c. search needs)
+    (λ c. search needs)
+    (λ c. search needs)
+    (λ c. search needs)
     returns)

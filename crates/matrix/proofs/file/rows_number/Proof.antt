@@ -1,22 +1,76 @@
--- `matrix::file::rows_number` meets its contract: the conditions are looked at in the table's order.
+-- `matrix::file::rows_number` meets its contract. The invariant of its loop: the number is that of the rows before block b, which are fit.
 -- Assumes nothing.
+use mathlib.Core.Path.{_≡_}
+use mathlib.Core.Logic.{⊎-elim}
+use Prim.Native.Nat.{_+_, _-_, _*_, _≤_, min}
+use native.Mathlib.Omega.{arith}
 use Rattle.matrix.specs.Number.{first}
-use Rattle.matrix.specs.File.{rowFaults}
+use Rattle.matrix.specs.Block.{rowsIn}
+use Rattle.matrix.specs.File.{matrixB, rowsHeld, badTritRows, zeroRowRows, rowFaults}
+use Rattle.matrix.specs.Runs.{runNumber}
+use Rattle.matrix.proofs.Runs.{Among, among-part, length-held, Judging, judging-none, judging-all, judging-found, judging-kept, judging-unfit}
 use Rattle.matrix.proofs.file.rows_number.Statement.{statement}
 use Rattle.matrix.proofs.file.rows_number.Tie as tie
 
-returns : tie.Need-returns
-unfolding first rowFaults
-returns c = rw (← c .before .bad-trit .ensures, c .if1 .taken)
+abbrev Inv-loop : tie.InvT-loop
+Inv-loop s in-blocks number₀ b₀ number b = (b ≤ 12) × Judging (rowsHeld in-blocks s) (min (7 * b) 81) number
 
-returns-2 : tie.Need-returns-2
-unfolding first rowFaults
-returns-2 c = rw (← c .before .before .before .bad-trit .ensures, c .before .before .if1 .left, ← c .before .zero-row .ensures, c .if2 .taken)
+abbrev μ-loop : tie.MeasureT-loop
+μ-loop s in-blocks number₀ b₀ number b = 12 - b
 
-returns-3 : tie.Need-returns-3
-unfolding first rowFaults
-returns-3 c = rw (← c .before .before .before .bad-trit .ensures, c .before .before .if1 .left, ← c .before .zero-row .ensures, c .if2 .left)
+-- the rows that are looked at, after those of the blocks before
+block : (c : tie.After-rows-in Inv-loop μ-loop)
+    → (let l = c .before .before .before in
+    let a = l .before .before .args in
+    Among (rowsHeld (a .in-blocks) (a .s .now)) (7 * l .loop .b) (c .rows-in .result) (c .before .rows-at .result .now))
+block c =
+    let l = c .before .before .before in
+    let a = l .before .before in
+    rw (c .rows-in .ensures)
+    (among-part (7 * l .loop .b) (rowsIn matrixB (l .loop .b)) (omega (arith, length-held (a .args .in-blocks) (a .args .s .now) (a .pre))) (c .before .rows-at .ensures))
+
+before : (c : tie.After-rows-in Inv-loop μ-loop)
+    → (let l = c .before .before .before in
+    let a = l .before .before .args in
+    Judging (rowsHeld (a .in-blocks) (a .s .now)) (7 * l .loop .b) (l .loop .number))
+before c =
+    let l = c .before .before .before in
+    let e : min (7 * l .loop .b) 81 ≡ 7 * l .loop .b = omega arith in
+    rw e at (l .loop .inv .1)
+
+returns : tie.Need-returns Inv-loop μ-loop
+unfolding first rowFaults badTritRows zeroRowRows runNumber
+returns c =
+    let r = c .before .before in
+    judging-unfit (block r) (before r) (c .before .run-number .ensures) 81 (omega arith) (c .if1 .taken)
+
+loop-again : tie.Need-loop-again Inv-loop μ-loop
+loop-again c =
+    let f = c .before .before in
+    let r = f .before in
+    let b = r .before .before .before .loop .b in
+    let e : min (7 * (b + 1)) 81 ≡ 7 * b + r .rows-in .result = omega arith in (
+      omega arith,
+      rw e (⊎-elim (λ w. judging-found (block r) (before r) (f .run-number .ensures) (w .1) (c .before .if1 .left) (w .0 .taken))
+          (λ w. judging-kept (block r) (before r) (f .run-number .ensures) (w .1) (c .before .if1 .left) (w .0 .left)) (c .if2 .came)),
+    )
+
+returns-2 : tie.Need-returns-2 Inv-loop μ-loop
+unfolding first rowFaults badTritRows zeroRowRows runNumber
+returns-2 c = judging-all 81 (c .before .loop .inv .1) (omega arith)
 
 pub rows-number-spec : {M : Type 1} → statement M
 rows-number-spec =
-    tie.close (tie.spec (λ c κs. c .before .pre) returns (λ c κs. c .before .before .before .pre) returns-2 returns-3)
+    tie.close
+    (tie.spec
+    Inv-loop
+    μ-loop
+    (λ c. (omega arith, judging-none))
+    (λ c κs. (c .before .before .before .pre, omega arith))
+    (λ c κs. omega arith)
+    (λ c κs. block c .long)
+    returns
+    (λ c. omega arith)
+    (λ c. omega arith)
+    loop-again
+    returns-2)

@@ -1,4 +1,4 @@
--- `protocol::evaluator::evaluate` meets its contract: the lengths decide first, and then the reader, which gives the rows.
+-- `protocol::evaluator::evaluate` meets its contract: the lengths decide first, and then the check.
 -- Assumes nothing.
 use mathlib.Core.Path.{_≡_, refl, sym, ap, _∙_}
 use mathlib.Core.List.{List, _++_}
@@ -8,11 +8,13 @@ use borrow.Author.Needs.{needs}
 use lib.ListN.{length, drop}
 use Rattle.linear.specs.Products.{matrixProduct}
 use Rattle.matrix.specs.Number.{output}
+use Rattle.matrix.specs.File.{rows}
+use Rattle.matrix.proofs.Digits.{product-of-file}
+use Rattle.matrix.proofs.RoundTrip.{fit-length}
 use Rattle.matrix.proofs.Outputs.{output-refused, output-done}
 use Rattle.protocol.specs.Base.{base}
 use Rattle.protocol.specs.Evaluator.{codeOf, code}
 use Rattle.protocol.proofs.Copies.{copied-first}
-use Rattle.protocol.proofs.Files.{read-rows}
 use Rattle.protocol.proofs.Evaluations.{key-length, label-length, output-short, file-decides, length-code}
 use Rattle.protocol.proofs.evaluator.evaluate.Statement.{statement}
 use Rattle.protocol.proofs.evaluator.evaluate.Tie as tie
@@ -31,26 +33,26 @@ returns-3 c = (output-short _ _ _ _ (c .before .before .if1 .left) (c .before .i
 
 returns-4 : tie.Need-returns-4
 returns-4 c =
-    let m = c .before .before in
-    let t = m .before .before in
-    (m .matrix-read .ensures .0 ∙ file-decides _ _ _ _ (t .before .before .if1 .left) (t .before .if2 .left) (t .if3 .left), output-refused _ _ _ (c .if4 .taken))
+    let m = c .before in
+    let t = m .before in
+    (m .matrix-check .ensures ∙ file-decides _ _ _ _ (t .before .before .if1 .left) (t .before .if2 .left) (t .if3 .left), output-refused _ _ _ (c .if4 .taken))
 
 returns-5 : tie.Need-returns-5
 unfolding code codeOf
 returns-5 c =
     let k = c .before .before .before .before .before in
-    let i = k .before .before .before in
-    let m = i .before .before in
-    let t = m .before .before in
+    let i = k .before .before in
+    let m = i .before in
+    let t = m .before in
     let a = t .before .before .before .before .before .before .before .args in
-    let z = sym (m .matrix-read .ensures .0) ∙ i .if4 .left in
+    let z = sym (m .matrix-check .ensures) ∙ i .if4 .left in
     let h : 22 ≤ length (a .out .now) = t .if3 .left in
-    let r = read-rows (a .file .now) _ z (m .matrix-read .ensures .1 .0) in
-    let y : k .code-of .result ≡ code base (a .key .now) (a .label .now) (a .file .now) =
-    k .code-of .ensures ∙ (λ j. matrixProduct 11 32 81 (r j) (k .before .inner-vector .ensures j)) in
-    let l : length (k .code-of .result) ≡ 22 = omega arith in (
+    let y : k .file-product .result ≡ code base (a .key .now) (a .label .now) (a .file .now) =
+    k .file-product .ensures ∙ product-of-file (a .file .now) _ (fit-length (a .file .now) z)
+    ∙ ap (matrixProduct 11 32 81 (rows (a .file .now))) (k .before .inner-vector .ensures) in
+    let l : length (k .file-product .result) ≡ 22 = omega arith in (
       sym z ∙ file-decides _ _ _ _ (t .before .before .if1 .left) (t .before .if2 .left) h,
-      copied-first (k .code-of .result) _ (omega arith) (c .before .before .put .ensures) .is
+      copied-first (k .file-product .result) _ (omega arith) (c .before .before .put .ensures) .is
           ∙ ap (λ (s : List ℕ). s ++ drop (length s) (a .out .now)) y
           ∙ output-done 0 (code base (a .key .now) (a .label .now) (a .file .now)) (a .out .now) refl,
     )
@@ -62,10 +64,8 @@ evaluate-spec =
     returns
     returns-2
     returns-3
-    (λ c. search needs)
     (λ c κs. search needs)
     returns-4
-    (λ c. search needs)
     (λ c κs. search needs)
     (λ c κs. search needs)
     (λ c. search needs)

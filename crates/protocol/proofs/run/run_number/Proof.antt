@@ -8,49 +8,40 @@ use borrow.Author.Needs.{needs}
 use lib.ListN.{length, take, drop, length-drop}
 use lib.Seq.{length-take-le}
 use Rattle.linear.specs.Trits.{fitTrits}
-use Rattle.matrix.specs.File.{readNumber, readOutput}
-use Rattle.protocol.proofs.Files.{read-check, read-rows-over}
+use Rattle.matrix.specs.File.{checkNumber}
 use Rattle.protocol.proofs.Outcomes.{fit-64}
-use Rattle.protocol.proofs.Runs.{run-length, run-room, run-fit, run-unfit, unfit-number, file-is, file-length, r0-is}
+use Rattle.protocol.proofs.Runs.{run-length, run-room, run-fit, run-unfit, file-is, file-length, r0-is}
 use Rattle.protocol.proofs.run.run_number.Statement.{statement}
 use Rattle.protocol.proofs.run.run_number.Tie as tie
 
 returns : tie.Need-returns
-returns c = (run-length _ _ (c .if1 .taken), λ e. absurd (omega arith))
+returns c = run-length _ _ (c .if1 .taken)
 
 returns-2 : tie.Need-returns-2
-returns-2 c = (run-room _ _ (c .before .if1 .left) (c .if2 .taken), λ e. absurd (omega arith))
+returns-2 c = run-room _ _ (c .before .if1 .left) (c .if2 .taken)
 
 returns-3 : tie.Need-returns-3
 returns-3 c =
     let t = c .before in
-    let m = t .before .before .before .before in
-    let i = m .before .before .before in
-    let s = i .before .before .before .before in
-    let input = s .args .input .now in
+    let m = t .before .before in
+    let i = m .before .before in
+    let input = i .before .before .before .args .input .now in
     let l = i .before .if1 .left in
     let v : length (take 64 (drop 320 input)) ≡ 64 = length-take-le 64 (drop 320 input) (rw length-drop (omega (arith, l))) in
-    let n = m .matrix-read .ensures .0 ∙ (λ j. readNumber (file-is input j) (s .pre j)) in (
-      run-fit input _ l (i .if2 .left) (file-length input l) _ (n ∙ read-check _)
-          (ap (fitTrits 32 256) (sym (r0-is input)) ∙ sym (t .trits-fit .ensures ∙ fit-64 (take 64 (drop 320 input)) v) ∙ c .if3 .taken),
-      λ e. read-rows-over _ (s .args .rows .now) _ (s .pre) (sym n ∙ e) (m .matrix-read .ensures .1 .0 ∙ ap (λ (f : List ℕ). readOutput f (s .args .rows .now)) (file-is input)),
-    )
+    run-fit input _ l (i .if2 .left) (file-length input l) _ (m .matrix-check .ensures ∙ ap checkNumber (file-is input))
+    (ap (fitTrits 32 256) (sym (r0-is input)) ∙ sym (t .trits-fit .ensures ∙ fit-64 (take 64 (drop 320 input)) v) ∙ c .if3 .taken)
 
 returns-4 : tie.Need-returns-4
 returns-4 c =
     let t = c .before .before in
-    let m = t .before .before .before .before in
-    let i = m .before .before .before in
-    let s = i .before .before .before .before in
-    let input = s .args .input .now in
+    let m = t .before .before in
+    let i = m .before .before in
+    let input = i .before .before .before .args .input .now in
     let l = i .before .if1 .left in
     let v : length (take 64 (drop 320 input)) ≡ 64 = length-take-le 64 (drop 320 input) (rw length-drop (omega (arith, l))) in
-    let n = m .matrix-read .ensures .0 ∙ (λ j. readNumber (file-is input j) (s .pre j)) in (
-      c .with-unfit-tape .ensures
-          ∙ run-unfit input _ l (i .if2 .left) (file-length input l) _ (n ∙ read-check _)
-          (ap (fitTrits 32 256) (sym (r0-is input)) ∙ sym (t .trits-fit .ensures ∙ fit-64 (take 64 (drop 320 input)) v) ∙ c .before .if3 .left),
-      λ e. absurd (unfit-number (m .matrix-read .result) (sym (c .with-unfit-tape .ensures) ∙ e)),
-    )
+    c .with-unfit-tape .ensures
+    ∙ run-unfit input _ l (i .if2 .left) (file-length input l) _ (m .matrix-check .ensures ∙ ap checkNumber (file-is input))
+    (ap (fitTrits 32 256) (sym (r0-is input)) ∙ sym (t .trits-fit .ensures ∙ fit-64 (take 64 (drop 320 input)) v) ∙ c .before .if3 .left)
 
 pub run-number-spec : {M : Type 1} → statement M
 run-number-spec =
@@ -66,8 +57,6 @@ run-number-spec =
     (λ c. search needs)
     (λ c. search needs)
     (λ c κs. search needs)
-    (λ c. search needs)
     returns-3
     (λ c κs. search needs)
-    (λ c. search needs)
     returns-4)

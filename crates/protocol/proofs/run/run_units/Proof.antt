@@ -15,7 +15,7 @@ use Rattle.protocol.proofs.run.run_units.Statement.{statement}
 use Rattle.protocol.proofs.run.run_units.Tie as tie
 
 first-round-requires : tie.Need-first-round-requires
-first-round-requires c κs = (c .before .before .before .pre .0 .long, c .before .before .before .pre .0 .tape)
+first-round-requires c κs = (c .before .before .before .pre .long, c .before .before .before .pre .tape)
 
 add-shares-requires : tie.Need-add-shares-requires
 add-shares-requires c κs =
@@ -23,34 +23,34 @@ add-shares-requires c κs =
     let s1 = c .before .before .before .share-frame2 in
     let l0 : length (s0 .result) ≡ 28 = omega arith in
     let l1 : length (s1 .result) ≡ 28 = omega arith in
-    (l0, l1, c .before .before .before .before .before .before .before .before .before .before .before .before .before .before .before .pre .0 .room-is)
+    (l0, l1, c .before .before .before .before .before .before .before .before .before .before .before .before .before .before .pre .room-is)
 
 returns : tie.Need-returns
 returns c =
     let t = c .before .before .before .before .before .before in
     let two = t .before .before .before .before .before .before in
-    let one = two .before .before in
+    let one = two .before in
     let s = one .before .before .before .before in
     let x = s .args .input .now in
     let n = length (s .args .out .now) in
-    let f = s .pre .0 in
+    let f = s .pre in
     let k : (i : ℕ) → _ = λ i. one .before .before .before .shared-slice-known .given i .fits in
     let a0 = sends x n f k side0 0 (lit< tt) _ _ (begun-is x n f k side0) (deal-is x n f k side0) (one .first-round .ensures .0) in
     let a1 = sends x n f k side1 0 (lit< tt) _ _ (begun-is x n f k side1) (deal-is x n f k side1) (one .first-round .ensures .1) in
     let b0 = sends x n f k side0 1 (lit< tt) _ _ (a0 .next-is) (open-is x n f k side0 _ (a1 .sent-is)) (rw (file-is x) at (two .exchange .ensures .0)) in
     let b1 = sends x n f k side1 1 (lit< tt) _ _ (a1 .next-is) (open-is x n f k side1 _ (a0 .sent-is)) (rw (file-is x) at (two .exchange .ensures .1)) in
-    let d0 = share-is x n f k side0 _ _ _ _ (b0 .next-is) (mask-is x n f k side0 _ (b1 .sent-is)) (s .pre .1) (t .before .share-frame .ensures) in
-    let d1 = share-is x n f k side1 _ _ _ _ (b1 .next-is) (mask-is x n f k side1 _ (b0 .sent-is)) (s .pre .1) (t .share-frame2 .ensures) in
+    let d0 = share-is x n f k side0 _ _ _ _ (b0 .next-is) (mask-is x n f k side0 _ (b1 .sent-is)) (file-is x) (t .before .share-frame .ensures) in
+    let d1 = share-is x n f k side1 _ _ _ _ (b1 .next-is) (mask-is x n f k side1 _ (b0 .sent-is)) (file-is x) (t .share-frame2 .ensures) in
     c .before .before .add-shares .ensures ∙ ap (λ (y : List ℕ). output 0 y (s .args .out .now)) (join-is x n f k _ _ d0 d1)
 
 pub run-units-spec : {M : Type 1} → statement M
 run-units-spec =
     tie.close
     (tie.spec
+    (λ c. search needs)
+    (λ c. search needs)
+    (λ c. search needs)
     first-round-requires
-    (λ c. search needs)
-    (λ c. search needs)
-    (λ c. search needs)
     (λ c κs. search needs)
     (λ c κs. search needs)
     (λ c κs. search needs)

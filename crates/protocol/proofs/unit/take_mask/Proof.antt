@@ -10,6 +10,8 @@ use lib.Seq.{take-all}
 use Rattle.linear.specs.Bits.{addBits}
 use Rattle.linear.specs.Trits.{innerShare}
 use Rattle.linear.specs.Products.{matrixProduct}
+use Rattle.matrix.specs.File.{rows}
+use Rattle.matrix.proofs.Digits.{product-of-file}
 use Rattle.protocol.specs.Frame.{terms, frame, bodyOf}
 use Rattle.protocol.proofs.unit.take_mask.Statement.{statement}
 use Rattle.protocol.proofs.unit.take_mask.Tie as tie
@@ -28,8 +30,8 @@ returns c =
     let ŵ : t .sum-32 .result ≡ addBits 32 (u .mask) (bodyOf (a .f .now)) = t .sum-32 .ensures ∙ ap (addBits 32 (u .mask)) body in
     let v : i .inner-share .last .1 .1 .1 .0 ≡ innerShare 32 (u .side) (addBits 32 (u .mask) (bodyOf (a .f .now))) (u .r) =
     i .inner-share .ensures ∙ append-nil _ ∙ ap (λ (x : List ℕ). innerShare 32 (u .side) x (u .r)) ŵ in
-    let share = s .code-of .ensures ∙ ap (matrixProduct 11 32 81 (a .rows .now)) v in
-    let l : length (s .code-of .result) ≡ 22 = omega arith in
+    let share = s .file-product .ensures ∙ product-of-file (a .file .now) _ (e .pre .2) ∙ ap (matrixProduct 11 32 81 (rows (a .file .now))) v in
+    let l : length (s .file-product .result) ≡ 22 = omega arith in
     (c .cleared .ensures, w .write-frame .ensures ∙ (λ j. frame 4 (terms (u .side) (u .session)) (share j) ++ drop (6 + l j) (a .out .now)))
 
 pub take-mask-spec : {M : Type 1} → statement M

@@ -1,12 +1,12 @@
--- `matrix::file::rows_of_block` meets its contract.
+-- `matrix::block::rows_of_block` meets its contract.
 -- Assumes nothing.
 use mathlib.Core.Path.{_≡_}
 use Prim.Native.Nat.{_+_, _-_, _*_}
 use native.Mathlib.Omega.{arith}
 use Rattle.matrix.specs.Block.{rowsIn}
 use Rattle.matrix.specs.File.{matrixB}
-use Rattle.matrix.proofs.file.rows_of_block.Statement.{statement}
-use Rattle.matrix.proofs.file.rows_of_block.Tie as tie
+use Rattle.matrix.proofs.block.rows_of_block.Statement.{statement}
+use Rattle.matrix.proofs.block.rows_of_block.Tie as tie
 
 returns : tie.Need-returns
 returns c =
