@@ -6,6 +6,7 @@ pub mod Strings
 pub mod Vectors
 pub mod Linearity
 pub mod Bytes
+pub mod Packing
 -- The laws of what only the functions here do.
 pub mod Filling
 pub mod Numbers

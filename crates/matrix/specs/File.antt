@@ -1,7 +1,7 @@
 -- The matrix file: its rows, the file of a set of rows, and the numbers that check, reader and writer give.
 use Prim.Native.Nat.{ℕ, _+_, _-_, _*_, _/_, _%_}
 use mathlib.Core.Path.{_≡_}
-use mathlib.Core.List.{List, [], _∷_, _++_}
+use mathlib.Core.List.{List, [], _∷_}
 use mathlib.Core.Bool.{Bool, cond, not}
 use lib.Dec.{eqb, ltb}
 use lib.ListN.{length, getD, take, drop}

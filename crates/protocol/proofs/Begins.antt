@@ -1,18 +1,17 @@
 -- A beginning by its number.
 -- Assumes nothing.
 use mathlib.Core.Path.{_≡_, refl, ap}
-use mathlib.Core.List.{List, [], _∷_}
-use mathlib.Core.Bool.{Bool, true, false, cond, not}
+use mathlib.Core.List.{List, []}
+use mathlib.Core.Bool.{Bool, cond, not}
 use mathlib.Core.Logic.{_≢_}
 use Prim.Native.Nat.{ℕ, _≤_}
 use borrow.Author.Tests.{eq-eqb, ne-eqb}
 use lib.Dec.{ltb, eqb, lit<}
 use lib.ListN.{length}
-use Rattle.matrix.specs.Number.{_when_}
 use Rattle.protocol.specs.declared.state.UnitState.{UnitState}
 use Rattle.protocol.specs.Scheme.{Scheme}
 use Rattle.protocol.specs.Frame.{terms}
-use Rattle.protocol.specs.Unit.{Beginning, beginConditions, beginNumber, begin, begun, idle}
+use Rattle.protocol.specs.Unit.{beginConditions, beginNumber, begin, begun, idle}
 use Rattle.matrix.proofs.Numbers.{first-none, is-equal, is-at-least}
 
 module _ (S : Scheme) (side session : ℕ) (key label : List ℕ) where

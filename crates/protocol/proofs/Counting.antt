@@ -10,7 +10,7 @@ use Rattle.matrix.specs.Number.{Condition, _when_, first, onlyIf}
 use Rattle.protocol.specs.declared.state.UnitState.{UnitState}
 use Rattle.protocol.specs.Scheme.{Scheme}
 use Rattle.protocol.specs.Frame.{Terms, dealKind, maskKind, headerBytes, kindOf, sideOf, sessionOf, bodyOf, frameBytes}
-use Rattle.protocol.specs.Unit.{Stepped, refused, doneStage, expectedSide, readsFile, leastOutput, unfitDeal, stepConditions, stepNumber, takeDeal, takeOpen, takeMask, advance, step}
+use Rattle.protocol.specs.Unit.{Stepped, doneStage, expectedSide, readsFile, leastOutput, unfitDeal, stepConditions, stepNumber, takeDeal, takeOpen, takeMask, advance, step}
 use Rattle.protocol.specs.Run.{Protocol, protocol, Lent}
 use Rattle.protocol.specs.Theorem.{acceptedCount, after, ThreeFrames}
 use Rattle.matrix.proofs.Numbers.{is-at-least, is-equal, or-left, or-right, first-none}

@@ -1,17 +1,16 @@
 -- Laws of pairs, and of a loop that reads them.
 -- Assumes nothing.
-use mathlib.Core.Path.{_≡_, refl, sym, ap, ap₂, _∙_}
+use mathlib.Core.Path.{_≡_, sym, ap, ap₂, _∙_}
 use mathlib.Core.Logic.{_≢_}
 use mathlib.Core.List.{List, [], _∷_, _++_, append-nil, append-assoc}
-use mathlib.Core.Bool.{Bool, true, false, cond}
-use Prim.Native.Nat.{ℕ, zero, suc, _+_, _-_, _*_, _/_, _%_, _^_, _<_, _≤_}
-use native.Mathlib.Nat.{mod-lt, zero-lt-suc}
+use mathlib.Core.Bool.{Bool, cond}
+use Prim.Native.Nat.{ℕ, zero, suc, _+_, _-_, _*_, _/_, _<_, _≤_}
 use native.Mathlib.Numerals.{add-one}
 use native.Mathlib.Decide.{ℕ-discrete}
 use native.Mathlib.Omega.{arith}
 use borrow.Author.Tests.{eq-eqb, ne-eqb}
-use lib.Dec.{eqb, lit<, lit≤}
-use lib.ListN.{length, getD, set, take, length-set, length-take, length-replicate}
+use lib.Dec.{lit<, lit≤}
+use lib.ListN.{length, getD, set, take, length-set, length-take}
 use lib.Seq.{take-all, take-set-le, take-suc-set, getD-set-same, getD-set-other}
 use Rattle.source.specs.Pair.{pair}
 use Rattle.source.proofs.Pairs.{pair-lt}

@@ -3,19 +3,18 @@
 use mathlib.Core.Path.{_≡_, refl, sym, ap₂, _∙_}
 use mathlib.Core.List.{List, _++_}
 use mathlib.Core.Bool.{Bool, true, false, cond, not}
-use Prim.Native.Nat.{ℕ, _+_, _*_, _<_, _≤_}
+use Prim.Native.Nat.{ℕ, _<_, _≤_}
 use native.Mathlib.Omega.{arith}
 use borrow.Author.Tests.{lt-ltb, le-ltb, eq-eqb, ne-eqb}
 use lib.Dec.{eqb}
 use lib.ListN.{length}
-use Rattle.linear.specs.Bits.{Bytes, zeros, bit, pack}
+use Rattle.linear.specs.Bits.{Bytes, zeros, bit}
 use Rattle.linear.specs.Trits.{low, high, packTrits, bitTrits}
 use Rattle.linear.proofs.Strings.{bit-lt, bit-zeros, pack-ext, pack-bits, bytes-zeros}
-use Rattle.linear.proofs.Linearity.{bytes-matrix}
 use Rattle.matrix.specs.Number.{first}
 use Rattle.matrix.specs.File.{checkNumber}
 use Rattle.protocol.specs.Base.{base}
-use Rattle.protocol.specs.Evaluator.{codeOf, code, evaluateConditions, evaluateNumber}
+use Rattle.protocol.specs.Evaluator.{evaluateConditions, evaluateNumber}
 
 -- bits read as trits: the bits are the low plane, and the high plane is zero
 pub bits-as-trits : (m : ℕ) (w : List ℕ) → Bytes m w → w ++ zeros m ≡ bitTrits m w
@@ -48,8 +47,3 @@ module _ (key label file : List ℕ) (n : ℕ) where
     pub file-decides : length label ≡ 32 → 22 ≤ n → checkNumber file ≡ evaluateNumber base key label file n
     unfolding first evaluateConditions checkNumber
     file-decides l h = simp (eq-eqb (length key) 32 k, eq-eqb (length label) 32 l, le-ltb n 22 h)
-
--- the 22 bytes of the code
-pub length-code : (key label file : List ℕ) → length (code base key label file) ≡ 22
-unfolding code codeOf
-length-code key label file = bytes-matrix 11 32 81 _ _ .size

@@ -7,7 +7,7 @@ use native.Mathlib.Nat.{not-suc-le-zero, le-of-suc-le-suc}
 use lib.Dec.{lit<}
 use lib.ListN.{length, getD, take, drop}
 use lib.Seq.{drop-drop}
-use Rattle.protocol.specs.Scheme.{Side, side0, side1, layoutBytes, field, concat}
+use Rattle.protocol.specs.Scheme.{side0, side1, layoutBytes, field, concat}
 use Rattle.protocol.specs.Base.{base}
 use Rattle.protocol.specs.Tape.{tapeLayout, dealLayout, K̃, x̃, w̃, z0, r0}
 use Rattle.protocol.specs.Frame.{bodyOf, openLayout}

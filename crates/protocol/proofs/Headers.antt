@@ -1,6 +1,6 @@
 -- What a header that was read says of the frame.
 -- Assumes nothing.
-use mathlib.Core.Path.{_≡_, refl, sym, ap, _∙_}
+use mathlib.Core.Path.{_≡_, refl}
 use mathlib.Core.List.{List, _∷_}
 use mathlib.Core.Bool.{Bool, true, false, cond, not, _||_}
 use Prim.Native.Nat.{ℕ, _-_}
@@ -8,7 +8,6 @@ use native.Mathlib.Omega.{arith}
 use lib.Dec.{ltb, eqb}
 use lib.ListN.{length}
 use Rattle.matrix.specs.Number.{Condition, _when_, first}
-use Rattle.protocol.specs.declared.frame.Header.{Header}
 use Rattle.protocol.specs.declared.frame.Header.the-variants.{Fields, Refused}
 use Rattle.protocol.specs.Scheme.{Scheme}
 use Rattle.protocol.specs.Frame.{headerBytes, kindOf, sideOf, sessionOf, frameBytes}

@@ -1,15 +1,15 @@
 -- What the code of a step must show: at a refusal, and for each kind of frame.
 -- Assumes nothing.
 use mathlib.Core.Path.{_≡_, refl, sym, ap, _∙_}
-use mathlib.Core.List.{List, [], _∷_, _++_}
+use mathlib.Core.List.{List, [], _∷_}
 use mathlib.Core.Bool.{Bool, true, false, cond, not}
-use Prim.Native.Nat.{ℕ, _+_, _-_, _*_, _/_, _≤_, min}
+use Prim.Native.Nat.{ℕ, _+_, _*_, _/_, min}
 use native.Mathlib.Omega.{arith}
 use lib.Dec.{eqb}
 use lib.ListN.{length, take, drop, length-append, length-drop}
 use lib.Seq.{length-take-le}
-use Rattle.linear.specs.Bits.{zeros, addBits}
-use Rattle.linear.specs.Trits.{fitTrits, innerShare}
+use Rattle.linear.specs.Bits.{addBits}
+use Rattle.linear.specs.Trits.{fitTrits}
 use Rattle.linear.specs.Products.{circulantProduct}
 use Rattle.linear.proofs.Strings.{bytes-add, bytes-append}
 use Rattle.linear.proofs.Linearity.{bytes-matrix}
@@ -17,7 +17,7 @@ use Rattle.protocol.specs.declared.state.UnitState.{UnitState}
 use Rattle.protocol.specs.Scheme.{field, concat}
 use Rattle.protocol.specs.Base.{base}
 use Rattle.protocol.specs.Tape.{dealLayout}
-use Rattle.protocol.specs.Frame.{Terms, header, frame, bodyOf}
+use Rattle.protocol.specs.Frame.{Terms, header, frame}
 use Rattle.protocol.specs.Evaluator.{codeOf}
 use Rattle.protocol.specs.Unit.{Meets, refused, unfitDeal, maskOf, shareOf, takeDeal, takeOpen, takeMask}
 use Rattle.protocol.proofs.Fields.{deal-r, two-fields}

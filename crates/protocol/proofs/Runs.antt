@@ -64,15 +64,6 @@ unfit-tape false false true d n e = ap withUnfit e
 unfit-tape false false false true n e = ap withUnfit e
 unfit-tape false false false false n e = ap withUnfit e
 
--- and so never 0
-pub unfit-number : (n : ℕ) → withUnfit n ≡ 0 → ⊥
-unfit-number n = pick (eqb n 8) (eqb n 9)
-  where
-    pick : (a b : Bool) → lowest a b true true ≡ 0 → ⊥
-    pick true b e = omega arith
-    pick false true e = omega arith
-    pick false false e = omega arith
-
 fit-tape : (a b c d : Bool) → lowest a b c d ≡ lowest a b (c || false) d
 fit-tape true b c d = refl
 fit-tape false true c d = refl

@@ -1,5 +1,4 @@
 -- The scheme of document 01: 256 bits, 81 digits, the circulant product and the matrix file.
-use Prim.Native.Nat.{ℕ}
 use mathlib.Core.Bool.{false}
 use Rattle.linear.specs.Products.{circulantProduct}
 use Rattle.matrix.specs.File.{fileBytes, faults, rows}

@@ -1,7 +1,7 @@
 -- What a frame is read to: its kind, side, session and body length, or its refusal.
 use Prim.Native.Nat.{ℕ, _-_}
 use mathlib.Core.List.{List}
-use mathlib.Core.Bool.{Bool, true, false, not, _||_}
+use mathlib.Core.Bool.{Bool, true, false, not}
 use lib.Dec.{ltb, eqb}
 use lib.ListN.{length}
 use Rattle.protocol.specs.declared.frame.Header.{Header}

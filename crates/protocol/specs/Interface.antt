@@ -1,10 +1,9 @@
 -- What a host touches: a state as bytes, and the numbers and slices of the calls that keep one; the program's input.
 use Prim.Native.Nat.{ℕ, _<_, _^_}
-use mathlib.Core.Path.{_≡_}
-use mathlib.Core.List.{List, [], _∷_, _++_}
+use mathlib.Core.List.{List, [], _∷_}
 use mathlib.Core.Bool.{Bool, cond, not, _||_}
 use lib.Dec.{ltb, eqb}
-use lib.ListN.{length, drop}
+use lib.ListN.{length}
 use Rattle.linear.specs.Bits.{Bytes, addBits}
 use Rattle.linear.specs.Trits.{fitTrits}
 use Rattle.matrix.specs.Number.{Condition, _when_, first}
@@ -12,10 +11,10 @@ use Rattle.matrix.specs.File.{badCheck, badLayout, badTrit, zeroRow}
 use Rattle.protocol.specs.declared.state.UnitState.{UnitState}
 use Rattle.protocol.specs.Scheme.{Side, side0, side1, layoutBytes, field, concat}
 use Rattle.protocol.specs.Base.{base}
-use Rattle.protocol.specs.Tape.{tapeBytes, r0}
+use Rattle.protocol.specs.Tape.{r0}
 use Rattle.protocol.specs.Frame.{terms, frame, kindOf, sideOf, sessionOf, bodyOf, codeBytes}
 use Rattle.protocol.specs.Evaluator.{code}
-use Rattle.protocol.specs.Unit.{Holdings, state, termsOf, Stepped, Beginning, beginConditions, begin, step}
+use Rattle.protocol.specs.Unit.{state, termsOf, Stepped, beginConditions, begin, step}
 
 -- ---- a state as bytes: laid out like a frame, with the stage for its kind
 

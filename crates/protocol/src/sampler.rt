@@ -1,12 +1,11 @@
 // The sampler: a tape from source bytes. Pairs of value 3 are skipped; no branch depends on the other pairs.
 ghost use mathlib.Core.Path.{_≡_};
-ghost use mathlib.Core.List.{List, _++_};
 ghost use Prim.Native.Nat.{ℕ, _+_, _-_, _*_, _/_, _%_, _^_, _<_, _≤_};
-ghost use lib.ListN.{length, getD, take, drop};
+ghost use lib.ListN.{length, getD};
 ghost use Rattle.linear.specs.Bits.{digit, number, byteOf};
 ghost use Rattle.linear.specs.Trits.{packTrits};
 ghost use Rattle.protocol.specs.Base.{base};
-ghost use Rattle.protocol.specs.Sampler.{tritOf, drawn, sampled, used, sampleNumber};
+ghost use Rattle.protocol.specs.Sampler.{tritOf, sampled, used, sampleNumber};
 ghost use Rattle.matrix.specs.Number.{output, reported};
 ghost use Rattle.protocol.specs.Drawing.{Drew, planeBit};
 use crate::bytes::put;

@@ -15,7 +15,7 @@ use Rattle.matrix.proofs.Outputs.{output-refused, output-done}
 use Rattle.protocol.specs.Base.{base}
 use Rattle.protocol.specs.Evaluator.{codeOf, code}
 use Rattle.protocol.proofs.Copies.{copied-first}
-use Rattle.protocol.proofs.Evaluations.{key-length, label-length, output-short, file-decides, length-code}
+use Rattle.protocol.proofs.Evaluations.{key-length, label-length, output-short, file-decides}
 use Rattle.protocol.proofs.evaluator.evaluate.Statement.{statement}
 use Rattle.protocol.proofs.evaluator.evaluate.Tie as tie
 

@@ -1,11 +1,10 @@
 -- `protocol::interface::decode` meets its contract: each array is a field of the slice.
 -- Assumes nothing.
 use mathlib.Core.Path.{_≡_, _∙_}
-use mathlib.Core.List.{List}
 use Prim.Native.Nat.{ℕ, _+_, _<_}
 use borrow.Author.Needs.{needs}
 use lib.Dec.{lit<}
-use lib.ListN.{length, getD, take, drop}
+use lib.ListN.{getD, take, drop}
 use Rattle.protocol.specs.Scheme.{layoutBytes, field}
 use Rattle.protocol.specs.Frame.{terms, bodyOf}
 use Rattle.protocol.specs.Unit.{state}

@@ -1,6 +1,6 @@
 -- `protocol::interface::pair_begin` meets its contract: a slice of its length holds what the beginning gave.
 -- Assumes nothing.
-use mathlib.Core.Path.{_≡_, ap, _∙_}
+use mathlib.Core.Path.{ap, _∙_}
 use borrow.Author.Needs.{needs}
 use Rattle.protocol.specs.Interface.{encodeState}
 use Rattle.protocol.proofs.Encodings.{decode-encode, begin-short, begin-long}

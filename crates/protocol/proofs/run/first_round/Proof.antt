@@ -1,6 +1,5 @@
 -- `protocol::run::first_round` meets its contract: the parts of the input are its fields, and those of the deal its frames.
 -- Assumes nothing.
-use mathlib.Core.List.{[]}
 use borrow.Author.Needs.{needs}
 use lib.Dec.{lit≤}
 use Rattle.linear.specs.Bits.{Bytes}

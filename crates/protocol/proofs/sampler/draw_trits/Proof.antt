@@ -1,9 +1,9 @@
 -- `protocol::sampler::draw_trits` meets its contract. The invariant of its loop: `Reading`, at the pair of this byte and place.
 -- Assumes nothing.
-use mathlib.Core.Path.{_≡_, ap₂, _∙_}
-use Prim.Native.Nat.{ℕ, _+_, _-_, _%_, _*_, _/_, _<_, _≤_}
+use mathlib.Core.Path.{_≡_}
+use Prim.Native.Nat.{_+_, _-_, _%_, _*_, _<_}
 use native.Mathlib.Omega.{arith}
-use lib.ListN.{length, set}
+use lib.ListN.{length}
 use Rattle.source.proofs.Pairs.{pair-lt, took-next}
 use Rattle.protocol.proofs.Draws.{Reading, reading-none, reading-more, reading-drew}
 use Rattle.protocol.proofs.sampler.draw_trits.Statement.{statement}

@@ -1,7 +1,7 @@
 -- `protocol::sampler::gathered` meets its contract. Every eighth bit is kept, and the three steps bring them together.
 -- Assumes nothing.
 use borrow.Author.Needs.{needs}
-use Rattle.protocol.proofs.Packing.{gathered-is}
+use Rattle.linear.proofs.Packing.{gathered-is}
 use Rattle.protocol.proofs.sampler.gathered.Statement.{statement}
 use Rattle.protocol.proofs.sampler.gathered.Tie as tie
 

@@ -1,11 +1,11 @@
 -- `protocol::sampler::plane_byte` meets its contract. Bit h of byte k of a word is bit 8k + h of it.
 -- Assumes nothing.
-use mathlib.Core.Path.{_≡_, ap, _∙_}
-use Prim.Native.Nat.{ℕ, _+_, _*_}
+use mathlib.Core.Path.{ap, _∙_}
+use Prim.Native.Nat.{_+_, _*_}
 use native.Mathlib.Omega.{arith}
 use borrow.Author.Needs.{needs}
 use Rattle.linear.specs.Tables.{from}
-use Rattle.linear.specs.Bits.{digit, bit}
+use Rattle.linear.specs.Bits.{bit}
 use Rattle.linear.proofs.Digits.{number-ext}
 use Rattle.linear.proofs.Strings.{bit-at}
 use Rattle.linear.proofs.Numbers.{word-digit}

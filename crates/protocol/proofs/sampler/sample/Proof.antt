@@ -1,11 +1,10 @@
 -- `protocol::sampler::sample` meets its contract: its number by what was found, and the tape in two copies.
 -- Assumes nothing.
-use mathlib.Core.Path.{_≡_, refl, sym, ap, _∙_}
-use mathlib.Core.List.{List, _++_}
-use Prim.Native.Nat.{ℕ, _+_, _*_, _/_, _≤_}
+use mathlib.Core.Path.{refl, sym, ap, _∙_}
+use Prim.Native.Nat.{ℕ, _+_, _/_, _≤_}
 use native.Mathlib.Omega.{arith}
 use borrow.Author.Needs.{needs}
-use lib.ListN.{length, take, drop}
+use lib.ListN.{length}
 use Rattle.matrix.specs.Number.{output, reported}
 use Rattle.protocol.specs.Sampler.{used}
 use Rattle.protocol.proofs.Samples.{sample-output, sample-source, sample-few, sample-done, sample-written}

@@ -1,7 +1,7 @@
 -- `protocol::unit::begin` meets its contract: what is accepted has 32 bytes of each half, copied whole.
 -- Assumes nothing.
 use mathlib.Core.Path.{_≡_, sym, _∙_}
-use Prim.Native.Nat.{ℕ, _%_}
+use Prim.Native.Nat.{_%_}
 use native.Mathlib.Omega.{arith}
 use borrow.Author.Needs.{needs}
 use lib.Seq.{take-all}

@@ -1,6 +1,6 @@
 -- `protocol::unit::reads_file` meets its contract: an empty frame has no first byte.
 -- Assumes nothing.
-use mathlib.Core.Path.{refl, sym}
+use mathlib.Core.Path.{refl}
 use native.Mathlib.Omega.{arith}
 use borrow.Author.Needs.{needs}
 use lib.ListN.{List·getD-eq-default}

@@ -1,7 +1,7 @@
 -- `protocol::unit::step_deal` meets its contract: a deal is taken where its r is fit.
 -- Assumes nothing.
 use mathlib.Core.Path.{refl, ap, _∙_}
-use mathlib.Core.List.{List, _++_}
+use mathlib.Core.List.{_++_}
 use mathlib.Core.Bool.{not}
 use Prim.Native.Nat.{ℕ}
 use borrow.Author.Needs.{needs}

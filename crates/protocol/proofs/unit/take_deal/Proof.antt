@@ -1,14 +1,13 @@
 -- `protocol::unit::take_deal` meets its contract: the deal's fields are parts of the frame.
 -- Assumes nothing.
 use mathlib.Core.Path.{_≡_, ap, _∙_}
-use mathlib.Core.List.{List, [], _∷_, _++_}
-use Prim.Native.Nat.{ℕ, _+_}
-use native.Mathlib.Omega.{arith}
+use mathlib.Core.List.{_++_}
+use Prim.Native.Nat.{_+_}
 use borrow.Author.Needs.{needs}
 use lib.ListN.{length, drop, length-append}
 use Rattle.linear.specs.Bits.{zeros, addBits}
 use Rattle.linear.proofs.Strings.{bytes-add}
-use Rattle.protocol.specs.Scheme.{field, concat}
+use Rattle.protocol.specs.Scheme.{field}
 use Rattle.protocol.specs.Base.{base}
 use Rattle.protocol.specs.Tape.{dealLayout}
 use Rattle.protocol.specs.Frame.{frame, bodyOf}

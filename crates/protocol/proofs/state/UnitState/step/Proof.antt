@@ -1,7 +1,6 @@
 -- `UnitState::step` meets its contract: its number decides, and then the kind that the unit waits for. The theorem is Main's.
 -- Assumes nothing.
 use mathlib.Core.Path.{_≡_, sym, ap, _∙_}
-use Prim.Native.Nat.{ℕ, _≤_}
 use native.Mathlib.Omega.{arith}
 use borrow.Author.Needs.{needs}
 use lib.ListN.{length}

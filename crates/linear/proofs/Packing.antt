@@ -1,17 +1,17 @@
 -- The law of packing: every eighth bit of a word, brought together in a byte.
 -- Assumes nothing.
-use mathlib.Core.Path.{_≡_, refl, sym, ap, ap₂, _∙_}
+use mathlib.Core.Path.{_≡_, refl, sym, ap, _∙_}
 use mathlib.Core.Bool.{Bool, true, false, cond}
-use Prim.Native.Nat.{ℕ, zero, suc, _+_, _*_, _/_, _%_, _^_, _<_}
+use Prim.Native.Nat.{ℕ, _+_, _*_, _/_, _%_, _^_, _<_}
 use native.Mathlib.Nat.{mul-zero, mul-one, lt-of-le-of-lt}
 use native.Mathlib.Omega.{arith}
 use lib.Bits.{bitAnd, bitOr, and-le-r}
-use lib.Dec.{T, eqb, eqb→eq, lit<}
+use lib.Dec.{eqb, eqb→eq, lit<}
 use lib.Pow.{shr-shr}
 use Rattle.linear.specs.Tables.{every}
 use Rattle.linear.specs.Bits.{digit, number}
 use Rattle.linear.proofs.Tables.{every-at}
 use Rattle.linear.proofs.Digits.{number-lt, number-of, digit-lt, digit-number, digit-and}
 
 -- bit j of a word whose bit 8k is bit k of v, and whose other bits are 0
 abbrev spread : ℕ → ℕ → ℕ
