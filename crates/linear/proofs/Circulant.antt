@@ -1,4 +1,4 @@
--- Where the circulant matrix's entries stand in the key, by bytes.
+-- The circulant matrix's rows: by bytes, where its entries stand in the key, and by words, the label turned under the key's bits.
 -- Assumes nothing.
 use mathlib.Core.Path.{_≡_, refl, sym, ap, ap₂, _∙_}
 use mathlib.Core.List.{List}
