@@ -1,6 +1,7 @@
 /* The service pair: units, dealer, sampler, counter's join, evaluator and matrix file, for C11 and C++.
  *
- * Every function here is proved to meet its contract, for all inputs (crates/protocol/src/interface.rt).
+ * Every function here is proved to meet its contract, for all inputs (crates/protocol/src/units.rt for
+ * pair_begin and pair_step, interface.rt for all others).
  * Link target/staticlib/libprotocol.a, which `rt staticlib protocol` makes; it needs no other library.
  *
  * SLICES. A slice is a pointer and a length. The pointer is never NULL, also where the length is 0, and

@@ -1,32 +1,12 @@
-// Bytes and words of bit strings, and their sums modulo 2: strings of 32 bytes by words, others byte by byte.
+// Sums of bit strings modulo 2: strings of 32 bytes by words, others byte by byte; and bytes and words of strings.
 ghost use mathlib.Core.Path.{_≡_};
-ghost use Prim.Native.Nat.{_*_};
 ghost use lib.Bits.{bitXor};
-ghost use lib.ListN.{length, getD};
-ghost use Rattle.linear.specs.Tables.{from};
-ghost use Rattle.linear.specs.Bits.{number, bit, addBits};
-use crate::words;
-use crate::words::Four;
-
-// Byte `i` of `s`; past the end, 0.
-pub fn byte_at(s: &[u8], i: usize) -> u8
-    ensures { λ r. ⌜ r ≡ getD (now (s .entry)) i 0 ⌝ }
-{
-    if i < s.len() { s[i] } else { 0 }
-}
-
-// Bits 8i to 8i + 63 of `s`, as a word; past the end, 0.
-pub fn word_at(s: &[u8], i: usize) -> u64
-    ensures { λ r. ⌜ r ≡ number 64 (from (8 * i) (bit (now (s .entry)))) ⌝ }
-{
-    if s.len() <= i {
-        return 0;
-    }
-    if 8 <= s.len() - i {
-        return words::word(s, i);
-    }
-    words::last_word(s, i)
-}
+ghost use lib.ListN.{length};
+ghost use Rattle.linear_model.specs.Bits.{addBits};
+pub use linear_words::bytes::byte_at;
+use linear_words::words;
+use linear_words::words::Four;
+pub use linear_words::words::word_at;
 
 // The exclusive or of four words and four words.
 fn xor_four(x: Four, y: Four) -> Four

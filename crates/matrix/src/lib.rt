@@ -1,5 +1,4 @@
 // The matrix file: 81 rows of trits in 12 blocks of 512 bytes, each with a check. Reader, writer, check and product take any bytes of
 // any length. Reader, writer and check answer with a number of the table; a refusal writes nothing.
-mod block;
 pub mod file;
 pub mod product;

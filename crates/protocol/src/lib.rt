@@ -1,11 +1,3 @@
-// The service pair: units, dealer, sampler, join and evaluator, and the C interface over them.
-mod bytes;
-pub mod dealer;
-pub mod evaluator;
-mod frame;
+// The service pair, as others see it: the C interface over units, dealer, sampler, join, evaluator and matrix file.
 pub mod interface;
-pub mod join;
-pub mod run;
-pub mod sampler;
-pub mod state;
-pub mod unit;
+pub mod units;

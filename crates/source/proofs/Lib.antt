@@ -1,2 +1,1 @@
--- The laws that proofs cite, here and in the crates above.
-pub mod Pairs
+pub mod Arguments

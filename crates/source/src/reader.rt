@@ -2,9 +2,9 @@
 // source are walks by hand, so it has few functions: the work is done by `next_pair`, and callers use `pair_from`.
 ghost use mathlib.Core.Path.{_≡_};
 ghost use Prim.Native.Nat.{_+_, _*_, _%_, _<_};
-ghost use Rattle.source.specs.Pair.{pair};
-ghost use Rattle.source.specs.Reading.{Took};
-use linear::bits::byte_at;
+ghost use Rattle.source_model.specs.Pair.{pair};
+ghost use Rattle.source_model.specs.Internal.Reading.{PairRead};
+use linear_words::bytes::byte_at;
 
 // The last byte that a place can name.
 const LAST_BYTE: usize = 0xffff_ffff_ffff_ffff;
@@ -27,7 +27,7 @@ fn pair_at(source: &[u8], byte: usize, at: usize) -> u8
 // The pair at a place, and the place after it. The last place that can be named is its own next.
 fn next_pair(source: &[u8], byte: usize, at: usize) -> PairAndPlace
     requires { ⌜ at < 4 ⌝ }
-    ensures { λ t. ⌜ Took (now (source .entry)) (4 * byte + at) (t .value) (t .byte) (t .pair) ⌝ }
+    ensures { λ t. ⌜ PairRead (now (source .entry)) (4 * byte + at) (t .value) (t .byte) (t .pair) ⌝ }
 {
     let value = pair_at(source, byte, at);
     if at < 3 {
@@ -78,7 +78,7 @@ fn reader_at<'a>(source: &'a [u8], byte: usize, at: usize) -> PairReader<'a>
 // Takes the next pair: gives its value and the reader at the place after it.
 fn take_pair<'a>(r: PairReader<'a>) -> PairAndReader<'a>
     requires { ⌜ r .pair < 4 ⌝ }
-    ensures { λ t. ⌜ (t .reader .source ≡ r .entry .source) × Took (now (r .entry .source)) (4 * r .entry .byte + r .entry .pair) (t .value) (t .reader .byte) (t .reader .pair) ⌝ }
+    ensures { λ t. ⌜ (t .reader .source ≡ r .entry .source) × PairRead (now (r .entry .source)) (4 * r .entry .byte + r .entry .pair) (t .value) (t .reader .byte) (t .reader .pair) ⌝ }
 {
     let t = next_pair(r.source, r.byte, r.pair);
     PairAndReader {
@@ -94,7 +94,7 @@ fn take_pair<'a>(r: PairReader<'a>) -> PairAndReader<'a>
 // Takes the pair at a place of a source through a reader.
 fn read_pair(source: &[u8], byte: usize, at: usize) -> PairAndPlace
     requires { ⌜ at < 4 ⌝ }
-    ensures { λ t. ⌜ Took (now (source .entry)) (4 * byte + at) (t .value) (t .byte) (t .pair) ⌝ }
+    ensures { λ t. ⌜ PairRead (now (source .entry)) (4 * byte + at) (t .value) (t .byte) (t .pair) ⌝ }
 {
     let t = take_pair(reader_at(source, byte, at));
     PairAndPlace {
@@ -106,7 +106,7 @@ fn read_pair(source: &[u8], byte: usize, at: usize) -> PairAndPlace
 
 // The pair at a place of a source, also past its end, and the place after it. Whoever calls it needs no walk.
 pub fn pair_from(source: &[u8], byte: usize, at: usize) -> PairAndPlace
-    ensures { λ t. ⌜ Took (now (source .entry)) (4 * byte + at % 4) (t .value) (t .byte) (t .pair) ⌝ }
+    ensures { λ t. ⌜ PairRead (now (source .entry)) (4 * byte + at % 4) (t .value) (t .byte) (t .pair) ⌝ }
 {
     read_pair(source, byte, at % 4)
 }

@@ -1,12 +1,11 @@
 -- `linear::bits::add_bytes` meets its contract. The invariant of its loop: the first i bytes are those of the sum.
--- Assumes nothing.
 use Prim.Native.Nat.{_-_}
 use native.Mathlib.Omega.{arith}
 use borrow.Author.Needs.{needs}
 use lib.ListN.{length}
-use Rattle.linear.specs.Bits.{addBits, sumBit, byteOf, pack}
-use Rattle.linear.proofs.Filling.{Filling, filling-none, filling-more, filling-all}
-use Rattle.linear.proofs.Strings.{sum-byte}
+use Rattle.linear_model.specs.Bits.{addBits, sumBit, byteOf, pack}
+use Rattle.linear_model.proofs.Filling.{Filling, filling-none, filling-more, filling-all}
+use Rattle.linear_model.proofs.Strings.{sum-byte}
 use Rattle.linear.proofs.bits.add_bytes.Statement.{statement}
 use Rattle.linear.proofs.bits.add_bytes.Tie as tie
 

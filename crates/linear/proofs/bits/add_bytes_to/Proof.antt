@@ -1,11 +1,10 @@
 -- `linear::bits::add_bytes_to` meets its contract. The invariant of its loop: the first i bytes are those of the sum, and the others are as they were.
--- Assumes nothing.
 use Prim.Native.Nat.{_-_}
 use native.Mathlib.Omega.{arith}
 use lib.ListN.{length}
-use Rattle.linear.specs.Bits.{addBits, sumBit, byteOf, pack}
-use Rattle.linear.proofs.Filling.{Filling, filling-none, filling-more, filling-at, filling-all}
-use Rattle.linear.proofs.Strings.{sum-byte}
+use Rattle.linear_model.specs.Bits.{addBits, sumBit, byteOf, pack}
+use Rattle.linear_model.proofs.Filling.{Filling, filling-none, filling-more, filling-at, filling-all}
+use Rattle.linear_model.proofs.Strings.{sum-byte}
 use Rattle.linear.proofs.bits.add_bytes_to.Statement.{statement}
 use Rattle.linear.proofs.bits.add_bytes_to.Tie as tie
 

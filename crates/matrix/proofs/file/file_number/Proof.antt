@@ -1,9 +1,8 @@
 -- `matrix::file::file_number` meets its contract: the conditions are looked at in the table's order, each over the whole file.
--- Assumes nothing.
 use mathlib.Core.Path.{_∙_}
 use native.Mathlib.Omega.{arith}
-use Rattle.matrix.specs.Number.{first}
-use Rattle.matrix.specs.File.{faults, rowFaults}
+use Rattle.numbers.specs.Number.{first}
+use Rattle.matrix_model.specs.File.{faults, rowFaults}
 use Rattle.matrix.proofs.file.file_number.Statement.{statement}
 use Rattle.matrix.proofs.file.file_number.Tie as tie
 
@@ -19,7 +18,7 @@ returns-3 : tie.Need-returns-3
 unfolding first faults rowFaults
 returns-3 c =
     let l = c .before in
-    c .rows-number .ensures ∙ rw (← l .before .before .before .bad-check .ensures, l .before .before .if1 .left, ← l .before .bad-layout .ensures, l .if2 .left)
+    c .all-rows-number .ensures ∙ rw (← l .before .before .before .bad-check .ensures, l .before .before .if1 .left, ← l .before .bad-layout .ensures, l .if2 .left)
 
 pub file-number-spec : {M : Type 1} → statement M
 file-number-spec =

@@ -1,10 +1,9 @@
 -- `matrix::file::matrix_check` meets its contract: a file of another length is 1, and of any other the number is that of its faults.
--- Assumes nothing.
 use mathlib.Core.Path.{_∙_}
 use native.Mathlib.Omega.{arith}
 use borrow.Author.Tests.{eq-eqb, ne-eqb}
-use Rattle.matrix.specs.Number.{first}
-use Rattle.matrix.specs.File.{checkNumber}
+use Rattle.numbers.specs.Number.{first}
+use Rattle.matrix_model.specs.File.{checkNumber}
 use Rattle.matrix.proofs.file.matrix_check.Statement.{statement}
 use Rattle.matrix.proofs.file.matrix_check.Tie as tie
 

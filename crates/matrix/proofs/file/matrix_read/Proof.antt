@@ -1,54 +1,43 @@
 -- `matrix::file::matrix_read` meets its contract: a refusal leaves the slice, and what is written restores the file.
--- Assumes nothing.
-use mathlib.Core.Path.{_≡_, refl, sym, ap, _∙_}
+use mathlib.Core.Path.{refl, sym, ap, _∙_}
 use native.Mathlib.Omega.{arith}
 use borrow.Author.Needs.{needs}
-use borrow.Author.Tests.{eq-eqb, ne-eqb, lt-ltb, le-ltb}
 use lib.ListN.{take}
 use lib.Seq.{take-at}
-use Rattle.matrix.specs.Number.{first}
-use Rattle.matrix.specs.File.{rows, readNumber}
-use Rattle.matrix.proofs.Outputs.{refusal, success}
-use Rattle.matrix.proofs.Rows.{length-rows}
-use Rattle.matrix.proofs.RoundTrip.{restores}
+use Rattle.numbers.proofs.Outputs.{refusal, success}
+use Rattle.matrix_model.specs.File.{rowsBytes, rows, Fit}
+use Rattle.matrix_model.proofs.Rows.{length-rows}
+use Rattle.matrix_model.proofs.RoundTrip.{fit-length, fit-file}
+use Rattle.matrix_model.proofs.Internal.Reading.{short-read, checked-read}
 use Rattle.matrix.proofs.file.matrix_read.Statement.{statement}
 use Rattle.matrix.proofs.file.matrix_read.Tie as tie
 
+-- a file that is read is fit
+fit : (c : tie.Else2) → Fit (c .before .before .before .before .before .args .file .now)
+fit c = sym (c .before .matrix-check .ensures) ∙ c .if2 .left
+
 returns : tie.Need-returns
-unfolding first readNumber
-returns c = refusal _ _ (rw (ne-eqb _ _ (c .if1 .taken))) (λ z. omega arith)
+returns c = refusal _ _ (short-read _ _ (c .if1 .taken)) (λ z. omega arith)
 
 returns-2 : tie.Need-returns-2
-unfolding first readNumber
-returns-2 c = refusal _ _ (rw (eq-eqb _ _ (c .before .if1 .left), lt-ltb _ _ (c .if2 .taken))) (λ z. omega arith)
+returns-2 c = refusal _ _ (c .before .matrix-check .ensures ∙ checked-read _ _ (c .before .before .if1 .left)) (c .if2 .taken)
 
 returns-3 : tie.Need-returns-3
-unfolding first readNumber
 returns-3 c =
-    let n = c .before in
-    refusal _ _ (n .file-number .ensures ∙ rw (eq-eqb _ _ (n .before .before .if1 .left), le-ltb _ _ (n .before .if2 .left))) (c .if3 .taken)
-
-returns-4 : tie.Need-returns-4
-unfolding first readNumber
-returns-4 c =
-    let w = c .before .before in
-    let n = w .before .before .before in
-    let l = n .before .before in
-    let a = l .before .before .before in
-    let file = a .args .file .now in
-    let z : n .file-number .result ≡ 0 = w .before .before .if3 .left in
-    let e = w .write-rows .ensures in
-    success (rows file) (a .args .out .now) (sym z ∙ n .file-number .ensures ∙ rw (eq-eqb _ _ (l .if1 .left), le-ltb _ _ (n .before .if2 .left))) refl (rw (length-rows file) e)
-    (rw (ap (take 5184) e ∙ take-at (rows file) _ 5184 (length-rows file)) (restores file (sym (n .file-number .ensures) ∙ z) (l .if1 .left)))
+    let e = c .before .before .write-rows .ensures in
+    let d = c .before .before .before .before in
+    let a = d .before .before .before .before .before .args in
+    let file = a .file .now in
+    success (rows file) (a .out .now) (sym (fit d) ∙ checked-read _ _ (d .before .before .if1 .left)) refl (rw (length-rows file) e)
+    (rw (ap (take rowsBytes) e ∙ take-at (rows file) _ rowsBytes (length-rows file)) (fit-file file (fit d)))
 
 pub matrix-read-spec : {M : Type 1} → statement M
 matrix-read-spec =
     tie.close
     (tie.spec
     returns
+    (λ c κs. omega arith)
     returns-2
-    (λ c κs. omega arith)
-    returns-3
-    (λ c κs. omega arith)
+    (λ c κs. (fit-length _ (fit (c .before)), omega arith))
     (λ c. search needs)
-    returns-4)
+    returns-3)

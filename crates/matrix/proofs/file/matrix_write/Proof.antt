@@ -1,15 +1,14 @@
 -- `matrix::file::matrix_write` meets its contract: a refusal leaves the slice, and the rows survive in what is written.
--- Assumes nothing.
 use mathlib.Core.Path.{_≡_, refl, sym, ap, _∙_}
 use native.Mathlib.Omega.{arith}
 use borrow.Author.Needs.{needs}
 use borrow.Author.Tests.{eq-eqb, ne-eqb, lt-ltb, le-ltb}
 use lib.ListN.{take}
 use lib.Seq.{take-at}
-use Rattle.matrix.specs.Number.{first}
-use Rattle.matrix.specs.File.{fileOf, writeNumber}
-use Rattle.matrix.proofs.Outputs.{refusal, success}
-use Rattle.matrix.proofs.RoundTrip.{length-file, survives}
+use Rattle.numbers.specs.Number.{first}
+use Rattle.matrix_model.specs.File.{fileOf, writeNumber}
+use Rattle.numbers.proofs.Outputs.{refusal, success}
+use Rattle.matrix_model.proofs.RoundTrip.{length-file, survives}
 use Rattle.matrix.proofs.file.matrix_write.Statement.{statement}
 use Rattle.matrix.proofs.file.matrix_write.Tie as tie
 
@@ -25,7 +24,7 @@ returns-3 : tie.Need-returns-3
 unfolding first writeNumber
 returns-3 c =
     let n = c .before in
-    refusal _ _ (n .rows-number .ensures ∙ rw (eq-eqb _ _ (n .before .before .if1 .left), le-ltb _ _ (n .before .if2 .left))) (c .if3 .taken)
+    refusal _ _ (n .all-rows-number .ensures ∙ rw (eq-eqb _ _ (n .before .before .if1 .left), le-ltb _ _ (n .before .if2 .left))) (c .if3 .taken)
 
 returns-4 : tie.Need-returns-4
 unfolding first writeNumber
@@ -35,11 +34,11 @@ returns-4 c =
     let l = n .before .before in
     let a = l .before .before .before in
     let set = a .args .rows .now in
-    let z : n .rows-number .result ≡ 0 = w .before .before .if3 .left in
+    let z : n .all-rows-number .result ≡ 0 = w .before .before .if3 .left in
     let e = w .write-blocks .ensures in
     let long = length-file set (l .if1 .left) in
-    success (fileOf set) (a .args .out .now) (sym z ∙ n .rows-number .ensures ∙ rw (eq-eqb _ _ (l .if1 .left), le-ltb _ _ (n .before .if2 .left))) refl (rw long e)
-    (rw (ap (take 6144) e ∙ take-at (fileOf set) _ 6144 long) (survives set (l .if1 .left) (sym (n .rows-number .ensures) ∙ z)))
+    success (fileOf set) (a .args .out .now) (sym z ∙ n .all-rows-number .ensures ∙ rw (eq-eqb _ _ (l .if1 .left), le-ltb _ _ (n .before .if2 .left))) refl (rw long e)
+    (rw (ap (take 6144) e ∙ take-at (fileOf set) _ 6144 long) (survives set (l .if1 .left) (sym (n .all-rows-number .ensures) ∙ z)))
 
 pub matrix-write-spec : {M : Type 1} → statement M
 matrix-write-spec =

@@ -1,26 +1,26 @@
 -- `matrix::file::write_blocks` meets its contract. The invariant of its loop: the blocks before b are written.
--- Assumes nothing.
 use mathlib.Core.Path.{_≡_, ap, _∙_}
 use Prim.Native.Nat.{_+_, _-_, _*_, _≤_}
 use native.Mathlib.Omega.{arith}
 use lib.ListN.{length}
-use Rattle.linear.specs.Tables.{tabulate}
-use Rattle.linear.proofs.Tables.{length-tabulate}
-use Rattle.matrix.specs.File.{matrixB, fileByte, fileFrom, fileOf}
-use Rattle.matrix.proofs.Parts.{Written, written-none, written-table}
-use Rattle.matrix.proofs.Blocks.{length-block, block-part}
+use Rattle.linear_model.specs.Tables.{tabulate}
+use Rattle.linear_model.proofs.Tables.{length-tabulate}
+use Rattle.matrix_model.specs.File.{matrixB, fileByte, fileFrom, fileOf}
+use Rattle.linear_model.proofs.Copies.{Copied}
+use Rattle.matrix_model.proofs.Internal.Copies.{copied-none, copied-long, copied-table}
+use Rattle.matrix_model.proofs.Blocks.{length-block, block-part}
 use Rattle.matrix.proofs.file.write_blocks.Statement.{statement}
 use Rattle.matrix.proofs.file.write_blocks.Tie as tie
 
 abbrev Inv-loop : tie.InvT-loop
-Inv-loop rows out₀ b₀ out b = (b ≤ 12) × Written (tabulate (512 * b) (fileByte matrixB rows)) out₀ out
+Inv-loop rows out₀ b₀ out b = (b ≤ 12) × Copied (tabulate (512 * b) (fileByte matrixB rows)) out₀ out
 
 abbrev μ-loop : tie.MeasureT-loop
 μ-loop rows out₀ b₀ out b = 12 - b
 
 loop-holds : tie.Need-loop-holds Inv-loop μ-loop
 unfolding tabulate
-loop-holds c = (omega arith, written-none)
+loop-holds c = (omega arith, copied-none)
 
 long : (c : tie.After-block-of Inv-loop μ-loop) → length (c .block-of .result) ≡ 512
 long c =
@@ -37,7 +37,7 @@ loop-again c =
     let b = l .loop .b in
     let e : 512 * (b + 1) ≡ 512 * b + 512 = omega arith in (
       omega arith,
-      rw e (written-table (512 * b) (fileByte matrixB rows) (r .block-of .result) 512 (l .loop .inv .1)
+      rw e (copied-table (512 * b) (fileByte matrixB rows) (r .block-of .result) 512 (l .loop .inv .1)
           (c .before .before .put .ensures) (r .block-of .ensures ∙ block-part rows (a .pre .0) b (omega arith)) (omega arith)),
     )
 
@@ -59,9 +59,9 @@ write-blocks-spec =
     (λ c κs. omega arith)
     (λ c. omega (arith, long (c .before)))
     (λ c. omega arith)
-    (λ c κs. omega (arith, long (c .before .before), c .before .before .before .before .loop .inv .1 .long))
+    (λ c κs. omega (arith, long (c .before .before), copied-long (c .before .before .before .before .loop .inv .1)))
     (λ c. omega arith)
     (λ c. omega arith)
     loop-again
-    (λ c. c .before .loop .inv .1 .long)
+    (λ c. copied-long (c .before .loop .inv .1))
     returns)

@@ -1,10 +1,9 @@
 -- `matrix::product::file_product` meets its contract: the length decides.
--- Assumes nothing.
 use mathlib.Core.Path.{sym, _∙_}
 use borrow.Author.Needs.{needs}
 use borrow.Author.Tests.{ne-eqb}
-use Rattle.matrix.specs.Product.{fileProduct}
-use Rattle.matrix.proofs.Digits.{product-of-file}
+use Rattle.matrix_model.specs.Product.{fileProduct}
+use Rattle.matrix_model.proofs.Product.{product-of-file}
 use Rattle.matrix.proofs.product.file_product.Statement.{statement}
 use Rattle.matrix.proofs.product.file_product.Tie as tie
 

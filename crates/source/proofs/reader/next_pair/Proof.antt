@@ -1,8 +1,7 @@
 -- `source::reader::next_pair` meets its contract: the pair by `pair_at`, and one pair on, but none at the last place.
--- Assumes nothing.
 use native.Mathlib.Omega.{arith}
 use borrow.Author.Needs.{needs}
-use Rattle.source.proofs.Pairs.{after-pair, after-last}
+use Rattle.source_model.proofs.Pairs.{after-pair, after-last}
 use Rattle.source.proofs.reader.next_pair.Statement.{statement}
 use Rattle.source.proofs.reader.next_pair.Tie as tie
 

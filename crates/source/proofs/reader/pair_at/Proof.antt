@@ -1,9 +1,8 @@
 -- `source::reader::pair_at` meets its contract: a shift by two bits for each pair.
--- Assumes nothing.
 use mathlib.Core.Path.{ap, _∙_}
 use Prim.Native.Nat.{ℕ, _*_, _/_, _%_, _^_}
 use borrow.Author.Needs.{needs}
-use Rattle.source.proofs.Pairs.{pair-of}
+use Rattle.source_model.proofs.Pairs.{pair-of}
 use Rattle.source.proofs.reader.pair_at.Statement.{statement}
 use Rattle.source.proofs.reader.pair_at.Tie as tie
 

@@ -1,6 +1,5 @@
 -- `source::reader::take_pair` meets its contract: a walk of its MIR, by hand. The reader is taken apart, `next_pair` is called on its slice and its place, and the reader at the next place is put together inside the result. All that the proof knows of `next_pair` is that it meets its contract.
 -- A reader is Copy: what it owns is had three times. One copy goes to the callee, whose parameters are the fields in their order; one is kept whole for the exit; and one, with the facts of the new place, is what the result's reader owns.
--- Assumes nothing.
 use mathlib.Core.Path.{_≡_, refl, ap}
 use Prim.Native.Nat.{ℕ, _+_, _*_, _<_, _^_}
 use mathlib.Core.List.{[], _∷_}
@@ -43,7 +42,7 @@ use denote.Triple.Spec.{Meets, tripleOf}
 use denote.Triple.Table.{entered, cited}
 use denote.Triple.Walked.{says, needs, Stays, stay-none, walkOf, goes-none, Walks, ends-at, walked, walk-meets}
 use denote.Exit.{yes}
-use Rattle.source.specs.Reading.{Took}
+use Rattle.source_model.specs.Internal.Reading.{PairRead}
 use Rattle.source.specs.declared.reader.PairReader.{PairReader}
 use Rattle.source.specs.declared.reader.PairAndPlace.{PairAndPlace}
 use Rattle.source.specs.declared.reader.PairAndReader.{PairAndReader}
@@ -86,7 +85,7 @@ module _ {M : Type 1} (𝓤 : URA M) (H : Heap 𝓤) (A : Atoms 𝓤) (W : Given
 
   -- what the callee says of its result
   abbrev Said : PairAndPlace → Type 0
-  Said r = Took (now (d .source)) (4 * d .byte + d .pair) (r .value) (r .byte) (r .pair)
+  Said r = PairRead (now (d .source)) (4 * d .byte + d .pair) (r .value) (r .byte) (r .pair)
 
   abbrev Post : Val → SProp 𝓤
   Post = walkOf 𝓤 H A take-pair.ended stayed (take-pair.clauses 𝓤 H A mem run) .post (((κ, tt), (q, tt), tt, (d, tt), (mach ∷ [], tt)), tt)

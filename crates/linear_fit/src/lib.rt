@@ -1,0 +1,2 @@
+// Tests of trit vectors.
+pub mod fit;

@@ -1,0 +1,6 @@
+pub mod Tables
+pub mod Bits
+pub mod Trits
+pub mod Products
+-- What no public contract of `linear` cites.
+pub mod Internal

@@ -1,0 +1,1 @@
+// Bits, trits and their products: definitions and laws; no function.

@@ -1,0 +1,17 @@
+-- `linear_trits::bitwise::added` meets its contract. Each branch is a case of the test.
+use borrow.Author.Tests.{eq-eqb, ne-eqb}
+use Rattle.linear_trits.proofs.bitwise.added.Statement.{statement}
+use Rattle.linear_trits.proofs.bitwise.added.Tie as tie
+
+returns : tie.Need-returns
+returns c = rw (eq-eqb (c .before .args .side) 0 (c .if1 .taken))
+
+returns-2 : tie.Need-returns-2
+returns-2 c = rw (ne-eqb (c .before .args .side) 0 (c .if1 .left))
+
+pub added-spec : {M : Type 1} → statement M
+added-spec =
+    tie.close
+    (tie.spec
+    returns
+    returns-2)

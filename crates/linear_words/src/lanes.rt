@@ -1,0 +1,123 @@
+// Trits by words: 64 places of a vector at once, a word of each plane. The functions on bytes use them too, at eight places.
+ghost use mathlib.Core.Path.{_≡_};
+ghost use Prim.Native.Nat.{ℕ, _+_, _*_, _%_, _^_, _<_};
+ghost use lib.ListN.{length};
+ghost use Rattle.linear_model.specs.Tables.{sum};
+ghost use Rattle.linear_model.specs.Internal.Words.{setWord, setFour};
+ghost use Rattle.linear_model.specs.Internal.Planes.{tritOf, Narrow};
+use crate::words;
+use crate::words::Four;
+
+// A word of each plane: 64 trits.
+pub struct Trits {
+    pub low: u64,
+    pub high: u64,
+}
+
+// A byte of each plane: eight trits.
+pub struct Planes {
+    pub low: u8,
+    pub high: u8,
+}
+
+// The trits of planes `x` and `u`; a place with both bits set counts as 0.
+pub fn fit(x: u64, u: u64) -> Trits
+    ensures { λ r. ⌜ ((k : ℕ) → tritOf (r .low) (r .high) k ≡ tritOf x u k % 3) ⌝ }
+{
+    let both = x & u;
+    Trits {
+        low: x ^ both,
+        high: u ^ both,
+    }
+}
+
+// The sum of two trits modulo 3, in each place where neither has both bits set.
+pub fn add(s: Trits, t: Trits) -> Trits
+    ensures { λ r. ⌜
+        ((k : ℕ) → tritOf (s .low) (s .high) k < 3 → tritOf (t .low) (t .high) k < 3
+        → tritOf (r .low) (r .high) k ≡ (tritOf (s .low) (s .high) k + tritOf (t .low) (t .high) k) % 3)
+        ⌝ }
+{
+    let odd = (s.low | t.high) ^ (s.high | t.low);
+    Trits {
+        low: (s.high | t.high) ^ odd,
+        high: (s.low | t.low) ^ odd,
+    }
+}
+
+// The products modulo 3 of trits of planes `x`, `u` and of planes `y`, `w`: not 0 where both are not, and 2 where one of them is.
+pub fn multiply(x: u64, u: u64, y: u64, w: u64) -> Trits
+    ensures { λ r. ⌜ ((k : ℕ) → tritOf (r .low) (r .high) k ≡ tritOf x u k * tritOf y w k % 3) ⌝ }
+{
+    let some = (x ^ u) & (y ^ w);
+    let two = some & (u ^ w);
+    Trits {
+        low: some ^ two,
+        high: two,
+    }
+}
+
+// The first eight trits.
+pub fn narrow(t: Trits) -> Planes
+    ensures { λ r. ⌜ Narrow (t .low) (t .high) (r .low) (r .high) ⌝ }
+{
+    Planes {
+        low: words::byte_of(t.low, 0),
+        high: words::byte_of(t.high, 0),
+    }
+}
+
+// A number that is the sum of the trits modulo 3, its remainder not taken yet. 2 is -1 modulo 3, so a number is the sum of its bits at
+// even places less that of its bits at odd places: `plus` has the low bits at even places and the high bits at odd ones, `minus` the others.
+pub fn weight(t: Trits) -> u64
+    ensures { λ r. ⌜ (r % 3 ≡ sum 64 (tritOf (t .low) (t .high)) % 3) × (r < 2 ^ 35) ⌝ }
+{
+    let even = (t.low ^ t.high) & 0x5555_5555_5555_5555;
+    let plus = even ^ t.high;
+    let minus = even ^ t.low;
+    words::folded(plus) + 2 * words::folded(minus)
+}
+
+// Stores the 64 bytes of a vector.
+pub fn put_vector(out: &mut [u8], s: Trits, t: Trits, u: Trits, v: Trits)
+    requires { ⌜ length (now out) ≡ 64 ⌝ }
+    ensures { λ _. ⌜
+        now (out .exit) ≡
+        setFour (setFour (now (out .entry)) 0 (s .low) (t .low) (u .low) (v .low)) 32 (s .high) (t .high) (u .high) (v .high)
+        ⌝ }
+{
+    words::put_four(
+        out,
+        0,
+        Four {
+            a: s.low,
+            b: t.low,
+            c: u.low,
+            d: v.low,
+        },
+    );
+    words::put_four(
+        out,
+        32,
+        Four {
+            a: s.high,
+            b: t.high,
+            c: u.high,
+            d: v.high,
+        },
+    );
+}
+
+// Stores the 22 bytes of a code, whose two words of a plane start at bytes 0 and 3.
+pub fn put_code(out: &mut [u8], s: Trits, t: Trits)
+    requires { ⌜ length (now out) ≡ 22 ⌝ }
+    ensures { λ _. ⌜
+        now (out .exit) ≡
+        setWord (setWord (setWord (setWord (now (out .entry)) 0 (s .low)) 3 (t .low)) 11 (s .high)) 14 (t .high)
+        ⌝ }
+{
+    words::put_word(out, 0, s.low);
+    words::put_word(out, 3, t.low);
+    words::put_word(out, 11, s.high);
+    words::put_word(out, 14, t.high);
+}

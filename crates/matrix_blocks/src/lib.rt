@@ -1,0 +1,3 @@
+// Blocks of the matrix file.
+pub mod blocks;
+pub mod faults;

@@ -1,0 +1,62 @@
+-- Examples 11 and 12 of the paper, over the definitions, and the sizes that it states.
+use mathlib.Core.Path.{_≡_, refl, ap₂}
+use mathlib.Core.List.{List, [], _∷_}
+use mathlib.Core.Bool.{true}
+use Prim.Native.Nat.{ℕ, zero, suc, _%_}
+use native.Mathlib.Omega.{arith}
+use Rattle.linear_model.specs.Tables.{every}
+use Rattle.linear_model.specs.Bits.{zeros}
+use Rattle.linear_model.proofs.Strings.{getD-zeros}
+use Rattle.numbers.specs.Number.{first}
+use Rattle.matrix_model.specs.Block.{rowsIn, laidOut, firstSum, secondSum, check, checkHolds, blockNumber}
+use Rattle.matrix_model.specs.File.{matrixB, blockCount, fileBytes, rowsBytes, rowPlace}
+
+-- 6,144 bytes in 12 blocks, 5,184 of them rows; 7 rows to a block, in block 11, 4
+pub sizes : (blockCount matrixB ≡ 12) × (fileBytes ≡ 6144) × (rowsBytes ≡ 5184)
+sizes = (refl, refl, refl)
+
+pub rows-in : (rowsIn matrixB 0 ≡ 7) × (rowsIn matrixB 10 ≡ 7) × (rowsIn matrixB 11 ≡ 4)
+rows-in = (refl, refl, refl)
+
+-- row 0 starts at byte 4 of block 0, row 80 at that of the fourth row of block 11
+pub places : (rowPlace matrixB 0 ≡ 4) × (rowPlace matrixB 7 ≡ 516) × (rowPlace matrixB 80 ≡ 5828)
+places = (refl, refl, refl)
+
+-- ---- 11: first byte 1, then 509 zeros: check 1, 0
+
+one : List ℕ
+one = 1 ∷ zeros 509
+
+first-one : (i : ℕ) → firstSum one (suc i) ≡ 1
+unfolding firstSum one
+first-one zero = refl
+first-one (suc i) = rw (first-one i, getD-zeros 509 i)
+
+second-one : (i : ℕ) → secondSum one i ≡ i % 255
+unfolding secondSum
+second-one zero = refl
+second-one (suc i) = rw (second-one i, first-one i) (omega arith)
+
+pub example-11 : check (1 ∷ zeros 509) ≡ 1 ∷ 0 ∷ []
+unfolding check one
+example-11 = ap₂ (λ (x y : ℕ). x ∷ y ∷ []) (first-one 509) (second-one 510)
+
+-- ---- 12: a block of zeros: its check holds, 9
+
+first-zeros : (n i : ℕ) → firstSum (zeros n) i ≡ 0
+unfolding firstSum
+first-zeros n zero = refl
+first-zeros n (suc i) = rw (first-zeros n i, getD-zeros n i)
+
+second-zeros : (n i : ℕ) → secondSum (zeros n) i ≡ 0
+unfolding secondSum
+second-zeros n zero = refl
+second-zeros n (suc i) = rw (second-zeros n i, first-zeros n (suc i))
+
+zeros-checked : checkHolds (zeros 512) ≡ true
+unfolding checkHolds check
+zeros-checked = rw (first-zeros 512 510, second-zeros 512 510)
+
+pub example-12 : (b : ℕ) → (checkHolds (zeros 512) ≡ true) × (blockNumber matrixB b (zeros 512) ≡ 9)
+unfolding blockNumber first laidOut every
+example-12 b = (zeros-checked, rw zeros-checked)

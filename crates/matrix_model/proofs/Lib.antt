@@ -1,0 +1,10 @@
+-- The laws of the file; those that only the code needs are in `Internal`.
+pub mod Tests
+pub mod Parts
+pub mod Blocks
+pub mod Rows
+pub mod WrittenBlocks
+pub mod RoundTrip
+pub mod Product
+pub mod Examples
+pub mod Internal

@@ -1,0 +1,4 @@
+pub mod Block
+pub mod File
+pub mod Product
+pub mod Internal

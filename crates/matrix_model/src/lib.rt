@@ -1,0 +1,2 @@
+// The matrix file: definitions, laws, its round trip, and its sizes; no function.
+pub mod sizes;

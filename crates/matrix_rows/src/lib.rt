@@ -1,0 +1,2 @@
+// The rows of the matrix file, judged.
+pub mod rows;

@@ -1,0 +1,49 @@
+-- `pair_conditions::conditions::content_number` meets its contract: by what is read, and then by the kind.
+use mathlib.Core.Path.{_≡_, sym, ap, _∙_}
+use native.Mathlib.Omega.{arith}
+use borrow.Author.Needs.{needs}
+use Rattle.pair_model.specs.Base.{base}
+use Rattle.pair_model.specs.Frame.{frameBytes}
+use Rattle.pair_model.proofs.Internal.Contents.{content-read, content-other, content-deal}
+use Rattle.pair_conditions.proofs.conditions.content_number.Statement.{statement}
+use Rattle.pair_conditions.proofs.conditions.content_number.Tie as tie
+
+returns : tie.Need-returns
+returns c =
+    let s = c .before .before .before .before .before in
+    let r = sym (c .before .before .reads-file .ensures) ∙ c .before .if1 .taken in
+    c .matrix-check .ensures ∙ content-read (s .args .f .now) (s .args .file .now) r (s .pre .1 r)
+
+returns-2 : tie.Need-returns-2
+returns-2 c =
+    let a = c .before .before .before .before .before .before .args in
+    content-other (a .f .now) (a .file .now) (sym (c .before .before .before .reads-file .ensures) ∙ c .before .before .if1 .left) (c .if2 .taken)
+
+r-of-deal-requires : tie.Need-r-of-deal-requires
+r-of-deal-requires c κs = c .before .before .before .before .before .before .pre .0 ∙ ap (frameBytes base) (c .if2 .left)
+
+returns-3 : tie.Need-returns-3
+returns-3 c =
+    let d = c .before .before .before in
+    let s = d .before .before .before .before .before .before in
+    content-deal (s .args .f .now) (s .args .file .now) (d .if2 .left) (s .pre .0) _ _ (c .before .before .r-of-deal .ensures) (sym (c .if3 .taken) ∙ c .before .trits-fit .ensures)
+
+returns-4 : tie.Need-returns-4
+returns-4 c =
+    let d = c .before .before .before in
+    let s = d .before .before .before .before .before .before in
+    content-deal (s .args .f .now) (s .args .file .now) (d .if2 .left) (s .pre .0) _ _ (c .before .before .r-of-deal .ensures) (sym (c .if3 .left) ∙ c .before .trits-fit .ensures)
+
+pub content-number-spec : {M : Type 1} → statement M
+content-number-spec =
+    tie.close
+    (tie.spec
+    (λ c κs. search needs)
+    (λ c κs. search needs)
+    returns
+    (λ c. omega (arith, c .before .before .before .before .before .pre .0))
+    returns-2
+    r-of-deal-requires
+    (λ c κs. search needs)
+    returns-3
+    returns-4)

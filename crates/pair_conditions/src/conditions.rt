@@ -1,0 +1,118 @@
+// The number of a step: the lengths decide first, then the header and what the unit waits for, then what the frame brings.
+// No half and nothing of a deal is read but its r.
+ghost use mathlib.Core.Path.{_≡_};
+ghost use mathlib.Core.Bool.{true};
+ghost use lib.ListN.{length};
+ghost use Rattle.numbers.specs.Number.{first};
+ghost use Rattle.pair_model.specs.Base.{base};
+ghost use Rattle.pair_model.specs.Frame.{parameters, dealKind, kindOf, frameBytes};
+ghost use Rattle.pair_model.specs.Unit.{readsFile, expectedSide, lengthConditions, headerConditions, contentConditions, stepNumber};
+use linear::trits::trits_fit;
+use matrix::file::matrix_check;
+use numbers::table::DONE;
+use numbers::table::NOT_WAITED_FOR;
+use numbers::table::OTHER_SESSION;
+use numbers::table::OTHER_SIDE;
+use numbers::table::UNFIT_TRIT;
+use numbers::table::WRONG_LENGTH;
+use pair_frames::fields::r_of_deal;
+use pair_frames::frame::DEAL;
+use pair_frames::frame::MASK;
+use pair_frames::frame::header_number;
+use pair_frames::frame::read_header;
+use pair_frames::header::Header;
+use pair_frames::sizes::FILE_BYTES;
+use pair_frames::sizes::INNER_TRITS;
+use pair_frames::sizes::OPEN_FRAME_BYTES;
+
+// Whether the step reads the file: the frame has a first byte and it is 3.
+fn reads_file(f: &[u8]) -> bool
+    ensures { λ r. ⌜ r ≡ readsFile base (now (f .entry)) ⌝ }
+{
+    if f.len() == 0 {
+        return false;
+    }
+    f[0] == MASK
+}
+
+// The side that a frame must name.
+fn expected_side(kind: u8, side: u8) -> u8
+    ensures { λ r. ⌜ r ≡ expectedSide kind side ⌝ }
+{
+    if kind == DEAL {
+        return side;
+    }
+    if side == 0 { 1 } else { 0 }
+}
+
+// The number as far as lengths decide it.
+fn length_number(f: &[u8], file: &[u8], room: usize) -> u32
+    ensures { λ r. ⌜ r ≡ first (lengthConditions base (now (f .entry)) (now (file .entry)) room) ⌝ }
+{
+    if room < OPEN_FRAME_BYTES {
+        return WRONG_LENGTH;
+    }
+    if file.len() == FILE_BYTES {
+        return DONE;
+    }
+    if reads_file(f) { WRONG_LENGTH } else { DONE }
+}
+
+// The number as far as the header and what the unit waits for decide it.
+fn frame_number(side: u8, session: u32, stage: u8, f: &[u8]) -> u32
+    ensures { λ r. ⌜ r ≡ first (headerConditions base (parameters side session) stage (now (f .entry))) ⌝ }
+{
+    let h = read_header(f, DEAL, MASK);
+    let Header::Fields {
+        kind,
+        side: named,
+        session: number,
+        body: _,
+    } = h
+    else {
+        return header_number(h);
+    };
+    if number != session {
+        return OTHER_SESSION;
+    }
+    if named != expected_side(kind, side) {
+        return OTHER_SIDE;
+    }
+    if kind != stage {
+        return NOT_WAITED_FOR;
+    }
+    DONE
+}
+
+// The number as far as what the frame brings decides it: the file that is read, or the trits of a deal.
+fn content_number(f: &[u8], file: &[u8]) -> u32
+    requires { ⌜ (length (now f) ≡ frameBytes base (kindOf (now f))) × (readsFile base (now f) ≡ true → length (now file) ≡ base .fileBytes) ⌝ }
+    ensures { λ r. ⌜ r ≡ first (contentConditions base (now (f .entry)) (now (file .entry))) ⌝ }
+{
+    if reads_file(f) {
+        return matrix_check(file);
+    }
+    if f[0] != DEAL {
+        return DONE;
+    }
+    if trits_fit(r_of_deal(f), INNER_TRITS) {
+        DONE
+    } else {
+        UNFIT_TRIT
+    }
+}
+
+// The number of a step of a unit of this side, session and stage.
+pub fn step_number(side: u8, session: u32, stage: u8, f: &[u8], file: &[u8], room: usize) -> u32
+    ensures { λ r. ⌜ r ≡ stepNumber base (parameters side session) stage (now (f .entry)) (now (file .entry)) room ⌝ }
+{
+    let of_lengths = length_number(f, file, room);
+    if of_lengths != DONE {
+        return of_lengths;
+    }
+    let of_frame = frame_number(side, session, stage, f);
+    if of_frame != DONE {
+        return of_frame;
+    }
+    content_number(f, file)
+}

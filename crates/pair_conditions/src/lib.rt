@@ -1,0 +1,2 @@
+// The number of a step.
+pub mod conditions;

@@ -1,0 +1,55 @@
+// The function itself, in one place.
+ghost use mathlib.Core.Path.{_≡_};
+ghost use lib.ListN.{length};
+ghost use Rattle.linear_model.specs.Trits.{bitTrits};
+ghost use Rattle.linear_model.specs.Products.{circulantProduct};
+ghost use Rattle.numbers.specs.Number.{output};
+ghost use Rattle.pair_model.specs.Base.{base};
+ghost use Rattle.pair_model.specs.Evaluator.{code, evaluateNumber};
+use linear_words::bytes::put;
+use matrix::file::matrix_check;
+use matrix::product::file_product;
+use numbers::table::DONE;
+use numbers::table::WRONG_LENGTH;
+use pair_frames::bytes::array_32;
+use pair_frames::bytes::product_32;
+use pair_frames::sizes::CODE_BYTES;
+use pair_frames::sizes::KEY_BYTES;
+use pair_frames::sizes::TRITS_BYTES;
+
+// The inner vector of a key and a label, as trits: its bits are the low plane.
+fn inner_vector(key: &[u8], label: &[u8]) -> [u8; TRITS_BYTES]
+    requires { ⌜ (length (now key) ≡ 32) × (length (now label) ≡ 32) ⌝ }
+    ensures { λ r. ⌜ r ≡ bitTrits 32 (circulantProduct 32 (now (key .entry)) (now (label .entry))) ⌝ }
+{
+    let w = product_32(array_32(key, 0), array_32(label, 0));
+    let mut v = [0u8; TRITS_BYTES];
+    put(&w, &mut v, 0);
+    v
+}
+
+// The code of a key and a label: B × (K × label modulo 2) modulo 3.
+pub fn evaluate(key: &[u8], label: &[u8], file: &[u8], out: &mut [u8]) -> u32
+    ensures result { λ r. ⌜ r ≡ evaluateNumber base (now (key .entry)) (now (label .entry)) (now (file .entry)) (length (now (out .entry))) ⌝ }
+    ensures output { λ r. ⌜
+        now (out .exit) ≡
+        output r (code base (now (key .entry)) (now (label .entry)) (now (file .entry))) (now (out .entry))
+        ⌝ }
+{
+    if key.len() != KEY_BYTES {
+        return WRONG_LENGTH;
+    }
+    if label.len() != KEY_BYTES {
+        return WRONG_LENGTH;
+    }
+    if out.len() < CODE_BYTES {
+        return WRONG_LENGTH;
+    }
+    let number = matrix_check(file);
+    if number != DONE {
+        return number;
+    }
+    let code = file_product(file, inner_vector(key, label));
+    put(&code, out, 0);
+    DONE
+}

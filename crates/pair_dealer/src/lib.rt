@@ -1,0 +1,2 @@
+// The dealer: both deal frames.
+pub mod dealer;

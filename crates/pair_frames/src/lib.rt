@@ -1,0 +1,6 @@
+// Frames: their lengths, their headers and the fields of their bodies.
+pub mod bytes;
+pub mod fields;
+pub mod frame;
+pub mod header;
+pub mod sizes;

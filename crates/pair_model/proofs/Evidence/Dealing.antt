@@ -1,0 +1,162 @@
+-- The dealer takes exactly the accepted tapes, the check exactly the fit files, and the sampler makes accepted tapes.
+use Prim.Native.Nat.{ℕ, zero, suc, _+_, _-_, _*_, _≤_, _<_}
+use mathlib.Core.Path.{_≡_, refl, sym, ap, _∙_, subst}
+use mathlib.Core.Logic.{_↔_}
+use mathlib.Core.List.{List}
+use mathlib.Core.Bool.{Bool, true, false, cond, not}
+use native.Mathlib.Omega.{arith}
+use native.Mathlib.Nat.{le-refl, zero-lt-suc, mod-lt}
+use lib.Dec.{T, eqb, lit<}
+use lib.ListN.{length, getD, take, drop}
+use lib.Seq.{drop-drop, drop-at, take-all, length-take-le}
+use Rattle.linear_model.specs.Bits.{Bytes}
+use Rattle.linear_model.specs.Trits.{fitTrits, packTrits}
+use Rattle.linear_model.proofs.Strings.{bytes-slice, bytes-append}
+use Rattle.linear_model.proofs.Vectors.{length-packTrits, bytes-packTrits, fit-pack}
+use Rattle.numbers.specs.Number.{first}
+use Rattle.pair_model.specs.Scheme.{Scheme, layoutBytes, field, fileNumber}
+use Rattle.pair_model.specs.Tape.{tapeBytes, r0, Accepted}
+use Rattle.source_model.specs.Pair.{pair}
+use Rattle.pair_model.specs.Sampler.{Drawn, found, draw, copiedBytes, wantedTrits, drawn, sampled, sampleConditions, sampleNumber}
+use Rattle.pair_model.specs.Dealer.{dealtBytes, dealConditions, dealNumber, dealSourceConditions, dealSourceNumber}
+use Rattle.numbers.proofs.Numbers.{is-true, denied, equal, at-least, is-equal, is-at-least, first-none, first-pass, Positive, NoneHolds, none-holds, first-zero}
+
+-- ---- files
+
+module _ (S : Scheme) (file : List ℕ) where
+  -- a file is fit exactly if it has the stated length and its faults give 0
+  pub fit-file : (fileNumber S file ≡ 0) ↔ ((length file ≡ S .fileBytes) × (first (S .faults file) ≡ 0))
+  unfolding fileNumber
+  fit-file = (
+    (λ e. let h = first-none 1 (not (eqb (length file) (S .fileBytes))) (S .faults file) (lit< tt) e in (is-equal (length file) (S .fileBytes) (h .0), h .1)),
+    (λ h. first-pass 1 (not (eqb (length file) (S .fileBytes))) (S .faults file) (ap not (equal (length file) (S .fileBytes) (h .0))) ∙ h .1),
+  )
+
+  -- where every fault has a number above 0, exactly if none holds
+  pub fit-file-none : Positive (S .faults file) → (fileNumber S file ≡ 0) ↔ ((length file ≡ S .fileBytes) × NoneHolds (S .faults file))
+  fit-file-none p =
+      ((λ e. let h = fit-file .0 e in (h .0, none-holds (S .faults file) p (h .1))), (λ h. fit-file .1 (h .0, first-zero (S .faults file) (h .1))))
+
+-- ---- tapes
+
+module _ (S : Scheme) (tape : List ℕ) (bytes : (i : ℕ) → getD tape i 0 < 256) where
+  abbrev isFit : Bool
+  isFit = fitTrits (S .innerBytes) (8 * S .innerBytes) (r0 S tape)
+
+  -- the dealer takes a tape of bytes exactly if it is accepted
+  pub deal-accepted : (dealNumber S tape (dealtBytes S) ≡ 0) ↔ Accepted S tape
+  unfolding dealConditions
+  deal-accepted = (forth, back)
+    where
+      forth : dealNumber S tape (dealtBytes S) ≡ 0 → Accepted S tape
+      forth e =
+          let h = none-holds (dealConditions S tape (dealtBytes S)) (lit< tt, (lit< tt, (lit< tt, tt))) e in
+          record { bytes = record { size = is-equal (length tape) (tapeBytes S) (h .0); small = bytes }; fit = denied isFit (h .1 .1 .0) }
+
+      back : Accepted S tape → dealNumber S tape (dealtBytes S) ≡ 0
+      back h =
+          first-zero (dealConditions S tape (dealtBytes S)) (
+            ap not (equal (length tape) (tapeBytes S) (h .bytes .size)),
+            (at-least (dealtBytes S) (dealtBytes S) (le-refl (dealtBytes S)), (ap not (is-true isFit (h .fit)), tt)),
+          )
+
+-- ---- sampled tapes
+
+-- a pair that is not skipped is a trit
+trit-pair : (source : List ℕ) (k : ℕ) → eqb (pair source k) 3 ≡ false → pair source k < 3
+unfolding pair
+trit-pair source k e = go (pair source k) (mod-lt _ (zero-lt-suc 3)) e
+  where
+    go : (x : ℕ) → x < 4 → eqb x 3 ≡ false → x < 3
+    go zero l e = omega arith
+    go (suc zero) l e = omega arith
+    go (suc (suc zero)) l e = omega arith
+    go (suc (suc (suc zero))) l e = absurd (subst T e tt)
+    go (suc (suc (suc (suc x)))) l e = absurd (omega arith)
+
+-- what is drawn are trits
+pub drawn-trits : (source : List ℕ) (wanted left k j : ℕ) → getD (draw source wanted left k .trits) j 0 < 3
+unfolding draw
+drawn-trits source zero left k j = lit< tt
+drawn-trits source (suc wanted) zero k j = lit< tt
+drawn-trits source (suc wanted) (suc left) k j =
+    pick (eqb (pair source k) 3) refl (drawn-trits source (suc wanted) left (suc k)) (drawn-trits source wanted left (suc k)) j
+  where
+    skip : Drawn
+    skip = draw source (suc wanted) left (suc k)
+
+    rest : Drawn
+    rest = draw source wanted left (suc k)
+
+    pick : (b : Bool) → eqb (pair source k) 3 ≡ b → ((j : ℕ) → getD (skip .trits) j 0 < 3) → ((j : ℕ) → getD (rest .trits) j 0 < 3)
+        → (j : ℕ) → getD (cond b skip (found (pair source k) rest) .trits) j 0 < 3
+    pick true e p q j = p j
+    pick false e p q zero = trit-pair source k e
+    pick false e p q (suc j) = q j
+
+module _ (S : Scheme) (source : List ℕ) (bytes : (i : ℕ) → getD source i 0 < 256) where
+  abbrev trits : ℕ → ℕ
+  trits j = getD (drawn S source .trits) j 0
+
+  trits-lt : (j : ℕ) → trits j < 3
+  unfolding drawn
+  trits-lt j = drawn-trits source (wantedTrits S) (4 * (length source - copiedBytes S)) (4 * copiedBytes S) j
+
+  -- r0 stands after the copied bytes
+  r0-after : (s : List ℕ) → r0 S s ≡ take (2 * S .innerBytes) (drop (copiedBytes S) s)
+  unfolding r0 field
+  r0-after s =
+      ap (take (2 * S .innerBytes))
+      (ap (λ (x : List ℕ). drop m (drop m (drop n (drop n x)))) (drop-drop n n s) ∙ ap (λ (x : List ℕ). drop m (drop m (drop n x))) (drop-drop n (n + n) s)
+      ∙ ap (λ (x : List ℕ). drop m (drop m x)) (drop-drop n (n + n + n) s) ∙ ap (drop m) (drop-drop m (n + n + n + n) s) ∙ drop-drop m (n + n + n + n + m) s
+      ∙ ap (λ (k : ℕ). drop k s) size)
+    where
+      n : ℕ
+      n = S .keyBytes
+
+      m : ℕ
+      m = S .innerBytes
+
+      size : n + n + n + n + m + m ≡ copiedBytes S
+      size = omega arith
+
+  module _ (enough : copiedBytes S ≤ length source) where
+    r0-sampled : r0 S (sampled S source) ≡ packTrits (S .innerBytes) trits
+    unfolding sampled
+    r0-sampled =
+        r0-after (sampled S source)
+        ∙ ap (take (2 * S .innerBytes))
+        (drop-at (take (copiedBytes S) source) (packTrits (S .innerBytes) trits) (copiedBytes S) (length-take-le (copiedBytes S) source enough))
+        ∙ take-all (2 * S .innerBytes) (packTrits (S .innerBytes) trits) (omega (arith, length-packTrits (S .innerBytes) trits))
+
+    accepted-sampled : Accepted S (sampled S source)
+    unfolding sampled
+    accepted-sampled =
+        record {
+          bytes =
+              subst (λ (k : ℕ). Bytes k (sampled S source)) whole
+              (bytes-append copied (bytes-packTrits (S .innerBytes) trits (λ j. omega (arith, trits-lt j))));
+          fit =
+              subst (λ (v : List ℕ). T (fitTrits (S .innerBytes) (8 * S .innerBytes) v)) (sym r0-sampled)
+              (fit-pack (S .innerBytes) (8 * S .innerBytes) trits trits-lt (le-refl (8 * S .innerBytes)));
+        }
+      where
+        copied : Bytes (copiedBytes S) (take (copiedBytes S) source)
+        copied = bytes-slice (length source) 0 (copiedBytes S) source (record { size = refl; small = bytes }) (omega arith)
+
+        whole : copiedBytes S + (S .innerBytes + S .innerBytes) ≡ tapeBytes S
+        whole = omega arith
+
+  -- where the sampler or the dealer over source bytes returns 0, the tape is accepted
+  pub sampled-accepted : (outputLength : ℕ) → sampleNumber S source outputLength ≡ 0 → Accepted S (sampled S source)
+  unfolding sampleConditions
+  sampled-accepted outputLength e =
+      let h = none-holds (sampleConditions S source outputLength) (lit< tt, (lit< tt, (lit< tt, tt))) e in
+      accepted-sampled (is-at-least (length source) (copiedBytes S) (h .1 .0))
+
+  -- the same of the dealer
+  pub dealt-source-accepted : (outputLength : ℕ) → dealSourceNumber S source outputLength ≡ 0 → Accepted S (sampled S source)
+  unfolding dealSourceConditions
+  dealt-source-accepted outputLength e =
+      let h = none-holds (dealSourceConditions S source outputLength) (lit< tt, (lit< tt, (lit< tt, tt))) e in
+      accepted-sampled (is-at-least (length source) (copiedBytes S) (h .1 .0))

@@ -1,0 +1,202 @@
+-- Two leaky protocols, which differ from the protocol in the step alone, and that they do not have `Privacy`.
+use Prim.Native.Nat.{ℕ}
+use mathlib.Core.Path.{_≡_, refl, sym, ap, _∙_, subst}
+use mathlib.Core.Logic.{_≢_}
+use mathlib.Core.List.{List, [], _∷_, _++_}
+use mathlib.Core.Bool.{cond}
+use native.Mathlib.Omega.{arith}
+use native.Mathlib.Nat.{le-refl}
+use lib.Dec.{eqb, lit<}
+use lib.ListN.{getD}
+use lib.Seq.{take-at}
+use Rattle.linear_model.specs.Bits.{zeros, fromBits, addBits}
+use Rattle.pair_model.specs.Scheme.{Scheme, Linear, Side, side0, side1, field, concat}
+use Rattle.pair_model.specs.Tape.{Accepted, K̃, x̃, dealLayout}
+use Rattle.pair_model.specs.Frame.{dealKind, openKind, maskKind, frame, header, bodyOf, openLayout}
+use Rattle.pair_model.specs.Unit.{State, K̂, x̂, withDeal, withMask, Stepped, refused, idle, state, addIfSide0, leastOutput, stepNumber, takeDeal, takeOpen, takeMask, advance, step}
+use Rattle.pair_model.specs.Run.{Protocol, Inputs, WellFormed, Run, runOf, Configuration, asSent, Entry, entry, SharedEntry, same, update, start, frameOf, stepOf, next, DeliveredAsSent, firstOf, secondOf}
+use Rattle.pair_model.specs.View.{Event, View, events, view}
+use Rattle.pair_model.specs.Theorem.{SameForFixed, Hides, Privacy}
+use Rattle.pair_model.proofs.Theorem.Stages.{parametersAt, incoming, unitAt, accepts-deal}
+use Rattle.pair_model.proofs.Theorem.Configurations.{configurationAt, start-at}
+use Rattle.pair_model.proofs.Evidence.Small.{small, small-linear, smallInputs, small-well, zero-tape}
+
+-- ---- the two leaky steps
+
+module _ (S : Scheme) where
+  -- a step with other ways to take a deal and an open frame
+  unfoldable pub stepBy : (State → List ℕ → Stepped) → (State → List ℕ → List ℕ → Stepped) → State → List ℕ → List ℕ → ℕ → Stepped
+  stepBy onDeal onOpen u f file outputLength =
+      let number = stepNumber S (u .parameters) (u .stage) f file outputLength in
+      cond (eqb number 0)
+      (cond (eqb (u .stage) dealKind) (onDeal u (bodyOf f)) (cond (eqb (u .stage) openKind) (onOpen u (bodyOf f) file) (takeMask S u (bodyOf f) file)))
+      (refused number u)
+
+  -- with the unit's own ways it is the unit's step
+  pub stepBy-own : stepBy (takeDeal S) (takeOpen S) ≡ step S
+  unfolding stepBy step advance
+  stepBy-own = refl
+
+  -- takes a deal, and writes its key half bare
+  unfoldable pub takeDealBare : State → List ℕ → Stepped
+  takeDealBare u body =
+      record {
+        result = 0;
+        written = frame openKind (u .parameters) (concat (u .secrets .key ∷ addBits (S .keyBytes) (u .secrets .label) (field (dealLayout S) 1 body) ∷ []));
+        next = withDeal S u body;
+      }
+
+  -- ŵi without zi
+  unfoldable pub maskWithoutZ : List ℕ → ℕ → (K̂ x̂ K̃ x̃ : List ℕ) → List ℕ
+  maskWithoutZ file side K̂ x̂ K̃ x̃ =
+      addIfSide0 S side (addBits (S .innerBytes) (S .product file K̂ x̃) (S .product file K̃ x̂)) (S .product file K̂ x̂)
+
+  -- takes the other's open frame, and writes a mask frame without z
+  unfoldable pub takeOpenWithoutZ : State → List ℕ → List ℕ → Stepped
+  takeOpenWithoutZ u body file =
+      let ŵi = maskWithoutZ file (u .parameters .side) (K̂ S u body) (x̂ S u body) (u .secrets .keyMask) (u .secrets .labelMask) in
+      record { result = 0; written = frame maskKind (u .parameters) ŵi; next = withMask S u ŵi }
+
+  -- the key half sent bare
+  abbrev pub bareKey : Protocol
+  bareKey = record { scheme = S; step = stepBy takeDealBare (takeOpen S) }
+
+  -- mask frames without z
+  abbrev pub withoutZ : Protocol
+  withoutZ = record { scheme = S; step = stepBy (takeDeal S) takeOpenWithoutZ }
+
+-- ---- entries by what their steps give
+
+-- the configuration after a step of side i
+abbrev pub stepped : Configuration → Side → Stepped → Configuration
+stepped c i s =
+    record {
+      unit = update i (s .next) (c .unit);
+      sent = update i (cond (eqb (s .result) 0) (c .sent i ++ (s .written ∷ [])) (c .sent i)) (c .sent);
+    }
+
+-- an entry leaves what its step gives
+pub next-by : (P : Protocol) (run : Run) (c : Configuration) (e : Entry) (s : Stepped) → stepOf P run c e ≡ s → next P run c e ≡ stepped c (e .side) s
+unfolding next
+next-by P run c e s q = λ j. stepped c (e .side) (q j)
+
+-- an entry as sent, with this file
+abbrev pub sent : Scheme → List ℕ → Side → Entry
+sent S file i = entry i asSent file (leastOutput S)
+
+-- no event
+abbrev pub none : Event
+none = record { frame = []; file = []; result = 0; written = []; after = idle small }
+
+-- event k of a view
+abbrev pub eventAt : ℕ → View → Event
+eventAt k v = getD (v .events) k none
+
+module _ (S : Scheme) (L : Linear S) (a : Inputs) (tape : List ℕ) (well : WellFormed S a) (h : Accepted S tape) (file : List ℕ) where
+  R : Run
+  R = runOf a tape
+
+  abbrev C₀ : Configuration
+  C₀ = configurationAt S a tape (λ i. 0)
+
+  number-deal : (i : Side) → stepNumber S (parametersAt S a tape i) dealKind (incoming S a tape i 0) file (leastOutput S) ≡ 0
+  number-deal i = accepts-deal S L a tape well h i file (leastOutput S) (le-refl (leastOutput S))
+
+  -- ---- the key half sent bare
+
+  bareDeal : Side → Stepped
+  bareDeal i = takeDealBare S (unitAt S a tape i 0) (bodyOf (incoming S a tape i 0))
+
+  B₁ : Configuration
+  B₁ = stepped C₀ side1 (bareDeal side1)
+
+  B₂ : Configuration
+  B₂ = stepped B₁ side0 (bareDeal side0)
+
+  bare-first : next (bareKey S) R C₀ (sent S file side1) ≡ B₁
+  unfolding B₁ bareDeal R stepBy configurationAt unitAt incoming
+  bare-first =
+      next-by (bareKey S) R C₀ (sent S file side1) (bareDeal side1)
+      (λ j. cond (eqb (number-deal side1 j) 0) (bareDeal side1) (refused (number-deal side1 j) (unitAt S a tape side1 0)))
+
+  bare-second : next (bareKey S) R B₁ (sent S file side0) ≡ B₂
+  unfolding B₁ B₂ bareDeal R stepBy configurationAt unitAt incoming takeDealBare
+  bare-second =
+      next-by (bareKey S) R B₁ (sent S file side0) (bareDeal side0)
+      (λ j. cond (eqb (number-deal side0 j) 0) (bareDeal side0) (refused (number-deal side0 j) (unitAt S a tape side0 0)))
+
+  -- what side 0 is lent then
+  bare-frame : frameOf (bareKey S) R B₂ side0 asSent ≡ bareDeal side1 .written
+  unfolding B₁ B₂ bareDeal R configurationAt unitAt takeDealBare
+  bare-frame = refl
+
+  module _ (e : file ≡ a .file) where
+    abbrev Delivered : Configuration → Side → Type 0
+    Delivered c i = DeliveredAsSent (bareKey S) R c (sent S file i)
+
+    bare-c₁ : next (bareKey S) R (start (bareKey S) R) (sent S file side1) ≡ B₁
+    unfolding R
+    bare-c₁ = ap (λ (c : Configuration). next (bareKey S) R c (sent S file side1)) (start-at S a well tape) ∙ bare-first
+
+    bare-c₂ : next (bareKey S) R (next (bareKey S) R (start (bareKey S) R) (sent S file side1)) (sent S file side0) ≡ B₂
+    bare-c₂ = ap (λ (c : Configuration). next (bareKey S) R c (sent S file side0)) bare-c₁ ∙ bare-second
+
+    -- the three entries are delivered as sent
+    bare-v₀ : Delivered (start (bareKey S) R) side1
+    unfolding R configurationAt unitAt
+    bare-v₀ =
+        subst (λ (c : Configuration). Delivered c side1) (sym (start-at S a well tape))
+        (record { waiting = omega arith; written = omega arith; file = λ t. e; output = le-refl (leastOutput S) })
+
+    bare-v₁ : Delivered (next (bareKey S) R (start (bareKey S) R) (sent S file side1)) side0
+    unfolding R B₁ bareDeal configurationAt unitAt takeDealBare
+    bare-v₁ =
+        subst (λ (c : Configuration). Delivered c side0) (sym bare-c₁)
+        (record { waiting = omega arith; written = omega arith; file = λ t. e; output = le-refl (leastOutput S) })
+
+    bare-v₂ : Delivered (next (bareKey S) R (next (bareKey S) R (start (bareKey S) R) (sent S file side1)) (sent S file side0)) side0
+    unfolding R B₁ B₂ bareDeal configurationAt unitAt takeDealBare
+    bare-v₂ =
+        subst (λ (c : Configuration). Delivered c side0) (sym bare-c₂)
+        (record { waiting = omega arith; written = omega arith; file = λ t. e; output = le-refl (leastOutput S) })
+
+    -- and the third hands side 0 the key half of side 1
+    bare-seen : let c₁ = next (bareKey S) R (start (bareKey S) R) (sent S file side1) in
+        field (openLayout S) 0 (bodyOf (frameOf (bareKey S) R (next (bareKey S) R c₁ (sent S file side0)) side0 asSent)) ≡ a .key side1
+    unfolding R bareDeal unitAt takeDealBare field concat frame header
+    bare-seen =
+        ap (λ (f : List ℕ). field (openLayout S) 0 (bodyOf f)) (ap (λ (c : Configuration). frameOf (bareKey S) R c side0 asSent) bare-c₂ ∙ bare-frame)
+        ∙ take-at (a .key side1) _ (S .keyBytes) (well .key side1 .size)
+
+-- the key half of the other unit can be seen
+pub bare-key-leaks : (S : Scheme) → Linear S → (a b : Inputs) → WellFormed S a → WellFormed S b → SameForFixed side0 a b → a .key side1 ≢ b .key side1
+    → (tape : List ℕ) → Accepted S tape → ¬ Privacy (bareKey S)
+unfolding R view events
+bare-key-leaks S L a b well₁ well₂ g differ tape h privacy =
+    differ (sym (bare-seen S L a tape well₁ h (a .file) refl) ∙ ap (λ (v : View). field (openLayout S) 0 (bodyOf (eventAt 1 v .frame))) views
+    ∙ bare-seen S L b u well₂ (H .pairing .forth-holds tape h) (a .file) (g .file))
+  where
+    H : Hides (bareKey S) side0 a b
+    H = privacy side0 a b well₁ well₂ g
+
+    u : List ℕ
+    u = H .pairing .forth tape
+
+    es : List SharedEntry
+    es = same (sent S (a .file) side1) ∷ same (sent S (a .file) side0) ∷ same (sent S (a .file) side0) ∷ []
+
+    views : view (bareKey S) side0 (runOf a tape) (firstOf side0 es) ≡ view (bareKey S) side0 (runOf b u) (secondOf side0 es)
+    views =
+        H .sameView tape h es
+        (bare-v₀ S L a tape well₁ h (a .file) refl, (bare-v₁ S L a tape well₁ h (a .file) refl, (bare-v₂ S L a tape well₁ h (a .file) refl, tt)))
+        .views
+
+-- at the small scheme: key halves 0 and 1 of side 1
+pub bare-key : ¬ Privacy (bareKey small)
+bare-key =
+    bare-key-leaks small small-linear (smallInputs 0 0 1 0) (smallInputs 0 1 1 0)
+    (small-well 0 0 1 0 (lit< tt) (lit< tt) (lit< tt) (lit< tt)) (small-well 0 1 1 0 (lit< tt) (lit< tt) (lit< tt) (lit< tt))
+    (record { key = refl; label = refl; session = refl; file = refl }) (λ e. zero-one (ap (λ (s : List ℕ). getD s 0 0) e)) (zeros 8) zero-tape
+  where
+    zero-one : ¬ (_≡_ {A = ℕ} 0 1)
+    zero-one e = omega arith

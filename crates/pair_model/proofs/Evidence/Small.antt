@@ -1,0 +1,70 @@
+-- A small scheme, of one byte for each string, for what is computed or refuted.
+use Prim.Native.Nat.{ℕ, zero, suc, _<_}
+use mathlib.Core.Path.{refl}
+use mathlib.Core.Bool.{false}
+use mathlib.Core.List.{List, [], _∷_}
+use lib.Dec.{lit<}
+use lib.ListN.{getD}
+use Rattle.linear_model.specs.Bits.{Bytes, zeros, bit}
+use Rattle.linear_model.specs.Tables.{every}
+use Rattle.linear_model.specs.Trits.{trit, fitTrits}
+use Rattle.linear_model.specs.Products.{circulantProduct}
+use Rattle.linear_model.proofs.Strings.{bytes-zeros}
+use Rattle.linear_model.proofs.Linearity.{circulant-bilinear}
+use Rattle.numbers.specs.Number.{first}
+use Rattle.pair_model.specs.Scheme.{Scheme, Linear, Side, side0, side1, fileNumber, field, layoutBytes}
+use Rattle.pair_model.specs.Tape.{r0, Accepted}
+use Rattle.pair_model.specs.Run.{Inputs, WellFormed}
+
+-- one byte of key, label and inner vector, one digit, a file of one row
+abbrev pub small : Scheme
+small =
+    record {
+      keyBytes = 1;
+      innerBytes = 1;
+      digits = 1;
+      product = λ file key label. circulantProduct 1 key label;
+      productReads = false;
+      fileBytes = 2;
+      faults = λ file. [];
+      rows = λ file. file;
+    }
+
+-- its product is linear on both sides
+pub small-linear : Linear small
+small-linear = record { bilinear = λ file. circulant-bilinear 1; unread = λ e f g key label. refl }
+
+-- one byte for each side
+abbrev pub ofSides : ℕ → ℕ → Side → List ℕ
+ofSides x y side0 = x ∷ []
+ofSides x y side1 = y ∷ []
+
+-- one byte
+pub bytes-one : (x : ℕ) → x < 256 → Bytes 1 (x ∷ [])
+bytes-one x h = record { size = refl; small = λ i. at i }
+  where
+    at : (i : ℕ) → getD (x ∷ []) i 0 < 256
+    at zero = h
+    at (suc i) = lit< tt
+
+-- both key halves, both label halves, session 1 and a file whose one row has trit 1 in column 0
+abbrev pub smallInputs : (key0 key1 label0 label1 : ℕ) → Inputs
+smallInputs key0 key1 label0 label1 =
+    record { key = ofSides key0 key1; label = ofSides label0 label1; session = 1; file = 1 ∷ 0 ∷ [] }
+
+-- they are well-formed where all halves are bytes
+pub small-well : (key0 key1 label0 label1 : ℕ) → key0 < 256 → key1 < 256 → label0 < 256 → label1 < 256
+    → WellFormed small (smallInputs key0 key1 label0 label1)
+unfolding fileNumber first
+small-well key0 key1 label0 label1 h0 h1 h2 h3 =
+    record {
+      key = λ i. elim i [ side0 ↦ bytes-one key0 h0 | side1 ↦ bytes-one key1 h1 ];
+      label = λ i. elim i [ side0 ↦ bytes-one label0 h2 | side1 ↦ bytes-one label1 h3 ];
+      session = lit< tt;
+      file = refl;
+    }
+
+-- the tape of zeros is accepted
+pub zero-tape : Accepted small (zeros 8)
+unfolding r0 field fitTrits every trit bit
+zero-tape = record { bytes = bytes-zeros 8; fit = tt }

@@ -1,0 +1,63 @@
+-- What a frame brings, by its kind: the number of the file that is read, or that of a deal's trits.
+use mathlib.Core.Path.{_≡_, refl, sym, ap, _∙_}
+use mathlib.Core.List.{List, [], _∷_, _++_}
+use mathlib.Core.Bool.{Bool, true, false, cond, not}
+use Prim.Native.Nat.{ℕ, _*_, _/_, min}
+use native.Mathlib.Omega.{arith}
+use borrow.Author.Tests.{eq-eqb, ne-eqb}
+use lib.Dec.{eqb, eqb→eq, lit<}
+use lib.ListN.{length, take, drop, length-drop}
+use lib.Seq.{length-take-le}
+use Rattle.linear_model.specs.Trits.{fitTrits}
+use Rattle.numbers.specs.Number.{_when_, first, onlyIf}
+use Rattle.numbers.proofs.Numbers.{first-end, holds}
+use Rattle.matrix_model.specs.File.{faults, checkNumber}
+use Rattle.pair_model.specs.Scheme.{field}
+use Rattle.pair_model.specs.Base.{base}
+use Rattle.pair_model.specs.Tape.{dealLayout}
+use Rattle.pair_model.specs.Frame.{dealKind, maskKind, kindOf, bodyOf, frameBytes}
+use Rattle.pair_model.specs.Unit.{readsFile, unfitDeal, contentConditions}
+use Rattle.pair_model.proofs.Internal.Fields.{field-at}
+
+-- the check of a file of the right length gives the number of its faults
+pub check-number : (file : List ℕ) → length file ≡ base .fileBytes → checkNumber file ≡ first (faults file)
+unfolding checkNumber first
+check-number file h = rw (eq-eqb (length file) (base .fileBytes) h)
+
+-- the planes of an inner vector are the halves of its bytes
+pub fit-vector : (v : List ℕ) → length v ≡ 2 * base .innerBytes
+    → fitTrits (length v / 2) (min (8 * base .innerBytes) (8 * (length v / 2))) v ≡ fitTrits (base .innerBytes) (8 * base .innerBytes) v
+fit-vector v e =
+    let h : length v / 2 ≡ base .innerBytes = omega arith in
+    ap (λ (m : ℕ). fitTrits m (min 256 (8 * m)) v) h
+
+module _ (f file : List ℕ) where
+  pub content-read : readsFile base f ≡ true → length file ≡ base .fileBytes → checkNumber file ≡ first (contentConditions base f file)
+  unfolding readsFile onlyIf
+  content-read r h =
+      let k : kindOf f ≡ maskKind = eqb→eq (kindOf f) maskKind (holds (eqb (kindOf f) maskKind) r) in
+      check-number file h
+      ∙ sym (ap first (λ i. onlyIf (eqb (k i) maskKind) (faults file) ++ onlyIf (eqb (k i) dealKind) (10 when unfitDeal base f ∷ [])) ∙ first-end (faults file))
+
+  pub content-other : readsFile base f ≡ false → (kindOf f ≡ dealKind → ⊥) → 0 ≡ first (contentConditions base f file)
+  unfolding first onlyIf
+  content-other r h = rw (r, ne-eqb (kindOf f) dealKind h)
+
+  module _ (k : kindOf f ≡ dealKind) (l : length f ≡ frameBytes base (kindOf f)) where
+    long : length (field (dealLayout base) 3 (bodyOf f)) ≡ 64
+    long =
+        let e : length f ≡ 166 = l ∙ ap (frameBytes base) k in
+        ap length (sym (field-at (dealLayout base) 3 6 f (lit< tt))) ∙ length-take-le 64 (drop 102 f) (rw length-drop (omega arith))
+
+    -- the test of r decides
+    pub content-deal : (b : Bool) (v : List ℕ) → v ≡ field (dealLayout base) 3 (bodyOf f) → b ≡ fitTrits (length v / 2) (min 256 (8 * (length v / 2))) v
+        → _≡_ {A = ℕ} (cond b 0 10) (first (contentConditions base f file))
+    unfolding first onlyIf readsFile
+    content-deal b v e d =
+        let x : length v ≡ 64 = ap length e ∙ long in
+        let q : b ≡ fitTrits 32 256 (field (dealLayout base) 3 (bodyOf f)) = d ∙ fit-vector v x ∙ ap (fitTrits 32 256) e in
+        rw (k, ← q) (pick b)
+      where
+        pick : (b : Bool) → _≡_ {A = ℕ} (cond b 0 10) (cond (not b) 10 0)
+        pick true = refl
+        pick false = refl

@@ -1,0 +1,92 @@
+-- A state that is written reads back; and the calls over a slice by its length.
+use mathlib.Core.Path.{_≡_, sym, ap, _∙_}
+use mathlib.Core.List.{List, [], _∷_}
+use Prim.Native.Nat.{ℕ}
+use borrow.Author.Tests.{eq-eqb, ne-eqb}
+use lib.ListN.{length, getD}
+use Rattle.numbers.specs.Number.{first}
+use Rattle.pair_model.specs.Scheme.{Scheme, field, concat}
+use Rattle.pair_model.specs.Frame.{parameters, header, frame, bodyOf}
+use Rattle.pair_model.specs.Unit.{State, state, Stepped, begin, advance}
+use Rattle.pair_model.specs.StateSlice.{secretsLayout, stateBytes, encodeState, decodeState, Sized, sliceStep, pairBeginNumber, pairBeginState, pairStepNumber, pairStepState, pairStepWritten}
+use Rattle.pair_model.proofs.Theorem.Layouts.{field-concat}
+use Rattle.pair_model.proofs.Theorem.StepLaws.{session-back, numberFor, step-accepted, step-result, step-refused}
+
+pub decode-encode : (S : Scheme) (u : State) → Sized S u → decodeState S (encodeState u) ≡ u
+unfolding decodeState encodeState frame header
+decode-encode S u h =
+    λ i. state (parameters (u .parameters .side) (session-back (u .parameters .session) (h .session) i)) (u .stage)
+    (record {
+      key = part 0 i;
+      label = part 1 i;
+      keyMask = part 2 i;
+      labelMask = part 3 i;
+      z = part 4 i;
+      r = part 5 i;
+      ownMask = part 6 i;
+    })
+  where
+    fields : List (List ℕ)
+    fields = let s = u .secrets in s .key ∷ s .label ∷ s .keyMask ∷ s .labelMask ∷ s .z ∷ s .r ∷ s .ownMask ∷ []
+
+    part : (i : ℕ) → field (secretsLayout S) i (concat fields) ≡ getD fields i []
+    part =
+        field-concat (secretsLayout S) fields
+        (h .key, (h .label, (h .keyMask, (h .labelMask, (h .z, (h .r, (h .ownMask, tt)))))))
+
+-- ---- a slice of another length
+
+module _ (S : Scheme) (s : List ℕ) (h : length s ≡ stateBytes S → ⊥) where
+  pub begin-short : (side session : ℕ) (key label : List ℕ) → (1 ≡ pairBeginNumber S side key label s) × (s ≡ pairBeginState S side session key label s)
+  unfolding pairBeginNumber pairBeginState first
+  begin-short side session key label = (rw (ne-eqb (length s) (stateBytes S) h), rw (ne-eqb (length s) (stateBytes S) h))
+
+  pub step-short : (f file : List ℕ) (n : ℕ) → (1 ≡ pairStepNumber S s f file n) × (s ≡ pairStepState S s f file n) × (pairStepWritten S s f file n ≡ [])
+  unfolding pairStepNumber pairStepState pairStepWritten
+  step-short f file n = (rw (ne-eqb (length s) (stateBytes S) h), rw (ne-eqb (length s) (stateBytes S) h), rw (ne-eqb (length s) (stateBytes S) h))
+
+-- ---- a slice of its length
+
+module _ (S : Scheme) (s : List ℕ) (h : length s ≡ stateBytes S) where
+  pub begin-long : (side session : ℕ) (key label : List ℕ)
+      → (begin S side session key label .result ≡ pairBeginNumber S side key label s)
+      × (encodeState (begin S side session key label .next) ≡ pairBeginState S side session key label s)
+  unfolding pairBeginNumber pairBeginState first begin
+  begin-long side session key label = (rw (eq-eqb (length s) (stateBytes S) h), rw (eq-eqb (length s) (stateBytes S) h))
+
+  module _ (f file : List ℕ) (n : ℕ) where
+    by-number : sliceStep S s f file n .result ≡ pairStepNumber S s f file n
+    unfolding pairStepNumber
+    by-number = rw (eq-eqb (length s) (stateBytes S) h)
+
+    by-written : sliceStep S s f file n .written ≡ pairStepWritten S s f file n
+    unfolding pairStepWritten
+    by-written = rw (eq-eqb (length s) (stateBytes S) h)
+
+    abbrev number : ℕ
+    number = numberFor S (decodeState S s) f file n
+
+    -- a refused step leaves the slice and writes nothing
+    pub slice-refused : (number ≡ 0 → ⊥) → (number ≡ pairStepNumber S s f file n) × (s ≡ pairStepState S s f file n) × ([] ≡ pairStepWritten S s f file n)
+    unfolding pairStepState
+    slice-refused z =
+        let e = step-result S (decodeState S s) f file n in
+        let r = step-refused S (decodeState S s) f file n (λ q. z (sym e ∙ q)) in (
+          sym e ∙ by-number,
+          rw (← by-number, ne-eqb (sliceStep S s f file n .result) 0 (λ q. z (sym e ∙ q))),
+          sym (ap (λ (t : Stepped). t .written) r) ∙ by-written,
+        )
+
+    -- an accepted one puts the next state there
+    pub slice-accepted : number ≡ 0
+        → (0 ≡ pairStepNumber S s f file n)
+        × (encodeState (advance S (decodeState S s) (bodyOf f) file .next) ≡ pairStepState S s f file n)
+        × (advance S (decodeState S s) (bodyOf f) file .written ≡ pairStepWritten S s f file n)
+    unfolding pairStepState
+    slice-accepted z =
+        let e = step-result S (decodeState S s) f file n ∙ z in
+        let r = step-accepted S (decodeState S s) f file n z in (
+          sym e ∙ by-number,
+          sym (rw (← by-number, eq-eqb (sliceStep S s f file n .result) 0 e) (ap (λ (t : Stepped). encodeState (t .next)) r)),
+          sym (ap (λ (t : Stepped). t .written) r) ∙ by-written,
+        )

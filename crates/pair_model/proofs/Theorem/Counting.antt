@@ -1,0 +1,129 @@
+-- Three accepted frames, no more and no fewer, whatever the calls are, and from any state.
+use Prim.Native.Nat.{ℕ, zero, suc, _+_, _≤_}
+use mathlib.Core.Path.{_≡_, refl, sym, ap, _∙_, subst}
+use mathlib.Core.List.{List, [], _∷_, _++_}
+use mathlib.Core.Bool.{Bool, false, cond, not, _&&_, _||_}
+use native.Mathlib.Omega.{arith}
+use lib.Dec.{ltb, eqb, eqb·suc-zero, lit<}
+use lib.ListN.{length}
+use Rattle.numbers.specs.Number.{Condition, _when_, first, onlyIf}
+use Rattle.pair_model.specs.Scheme.{Scheme}
+use Rattle.pair_model.specs.Frame.{Parameters, dealKind, maskKind, headerBytes, kindOf, sideOf, sessionOf, bodyOf, frameBytes}
+use Rattle.pair_model.specs.Unit.{State, Stepped, doneStage, expectedSide, readsFile, leastOutput, unfitDeal, stepConditions, stepNumber, takeDeal, takeOpen, takeMask, advance, step}
+use Rattle.pair_model.specs.Run.{Protocol, protocol, Lent}
+use Rattle.pair_model.specs.Theorem.{acceptedCount, after, ThreeFrames}
+use Rattle.numbers.proofs.Numbers.{is-at-least, is-equal, or-left, or-right, first-none}
+use Rattle.pair_model.proofs.Theorem.StepLaws.{numberFor, step-result, step-accepted, step-refused}
+
+-- where a list with 3 in the third and 7 in the seventh place gives 0, neither condition holds
+module _ (a b c d e f g : Bool) (cs : List Condition) where
+  none-of-7 : first (1 when a ∷ 1 when b ∷ 3 when c ∷ 4 when d ∷ 5 when e ∷ 6 when f ∷ 7 when g ∷ cs) ≡ 0 → (c ≡ false) × (g ≡ false)
+  none-of-7 h =
+      let h₂ = first-none 1 a (1 when b ∷ 3 when c ∷ 4 when d ∷ 5 when e ∷ 6 when f ∷ 7 when g ∷ cs) (lit< tt) h .1 in
+      let h₃ = first-none 1 b (3 when c ∷ 4 when d ∷ 5 when e ∷ 6 when f ∷ 7 when g ∷ cs) (lit< tt) h₂ .1 in
+      let h₄ = first-none 3 c (4 when d ∷ 5 when e ∷ 6 when f ∷ 7 when g ∷ cs) (lit< tt) h₃ in
+      let h₅ = first-none 4 d (5 when e ∷ 6 when f ∷ 7 when g ∷ cs) (lit< tt) (h₄ .1) .1 in
+      let h₆ = first-none 5 e (6 when f ∷ 7 when g ∷ cs) (lit< tt) h₅ .1 in
+      let h₇ = first-none 6 f (7 when g ∷ cs) (lit< tt) h₆ .1 in
+      (h₄ .0, first-none 7 g cs (lit< tt) h₇ .0)
+
+module _ (S : Scheme) where
+  -- a frame is accepted only at the stages 1 to 3
+  waits : (t : Parameters) (stage : ℕ) (f file : List ℕ) (outputLength : ℕ) → stepNumber S t stage f file outputLength ≡ 0 → (1 ≤ stage) × (stage ≤ 3)
+  unfolding stepConditions
+  waits t stage f file outputLength h =
+      let k = none-of-7 (ltb outputLength (leastOutput S)) (readsFile S f && not (eqb (length file) (S .fileBytes)))
+      (ltb (length f) headerBytes || (ltb (kindOf f) dealKind || ltb maskKind (kindOf f))) (not (eqb (length f) (frameBytes S (kindOf f))))
+      (not (eqb (sessionOf f) (t .session))) (not (eqb (sideOf f) (expectedSide (kindOf f) (t .side)))) (not (eqb (kindOf f) stage))
+      (onlyIf (readsFile S f) (S .faults file) ++ onlyIf (eqb (kindOf f) dealKind) (10 when unfitDeal S f ∷ [])) h in
+      let r = or-right (ltb (length f) headerBytes) (ltb (kindOf f) dealKind || ltb maskKind (kindOf f)) (k .0) in
+      subst (λ (n : ℕ). (1 ≤ n) × (n ≤ 3)) (is-equal (kindOf f) stage (k .1)) (
+        is-at-least (kindOf f) dealKind (or-left (ltb (kindOf f) dealKind) (ltb maskKind (kindOf f)) r),
+        is-at-least maskKind (kindOf f) (or-right (ltb (kindOf f) dealKind) (ltb maskKind (kindOf f)) r),
+      )
+
+  -- and takes the unit one stage on
+  moves : (u : State) (body file : List ℕ) → (1 ≤ u .stage) × (u .stage ≤ 3) → advance S u body file .next .stage ≡ suc (u .stage)
+  unfolding advance takeDeal takeOpen takeMask
+  moves u body file h = pick (u .stage) (h .0) (h .1)
+    where
+      pick : (n : ℕ) → 1 ≤ n → n ≤ 3
+          → cond (eqb n 1) (takeDeal S u body) (cond (eqb n 2) (takeOpen S u body file) (takeMask S u body file)) .next .stage ≡ suc n
+      pick zero l m = absurd (omega arith)
+      pick (suc zero) l m = refl
+      pick (suc (suc zero)) l m = refl
+      pick (suc (suc (suc zero))) l m = refl
+      pick (suc (suc (suc (suc n)))) l m = absurd (omega arith)
+
+  -- 1 for an accepted call, 0 for a refused one
+  abbrev counted : ℕ → ℕ
+  counted result = cond (eqb result 0) 1 0
+
+  -- a call, refused or accepted
+  data Call (u : State) (s : Stepped) : Type 0 where
+    isRefused : counted (s .result) ≡ 0 → s .next ≡ u → Call u s
+    isAccepted : counted (s .result) ≡ 1 → 1 ≤ u .stage → u .stage ≤ 3 → s .next .stage ≡ suc (u .stage) → Call u s
+
+  call : (u : State) (f file : List ℕ) (outputLength : ℕ) → Call u (step S u f file outputLength)
+  call u f file outputLength = pick (numberFor S u f file outputLength) refl
+    where
+      s : Stepped
+      s = step S u f file outputLength
+
+      result : s .result ≡ numberFor S u f file outputLength
+      result = step-result S u f file outputLength
+
+      pick : (n : ℕ) → numberFor S u f file outputLength ≡ n → Call u s
+      pick zero e =
+          let w = waits (u .parameters) (u .stage) f file outputLength e in
+          isAccepted (rw (result, e)) (w .0) (w .1)
+          (ap (λ (s : Stepped). s .next .stage) (step-accepted S u f file outputLength e) ∙ moves u (bodyOf f) file w)
+      pick (suc n) e =
+          isRefused (rw (result, e, eqb·suc-zero n))
+          (ap (λ (s : Stepped). s .next) (step-refused S u f file outputLength (λ z. omega (arith, sym result ∙ z, e))))
+
+  abbrev P : Protocol
+  P = protocol S
+
+  abbrev Counted : State → List Lent → Type 0
+  Counted u ls = (after P u ls .stage ≡ u .stage + acceptedCount P u ls) × (after P u ls .stage ≤ doneStage)
+
+  counts : (u : State) (ls : List Lent) → u .stage ≤ doneStage → Counted u ls
+  counts u [] h = (omega arith, h)
+  counts u (l ∷ ls) h = pick (call u (l .frame) (l .file) (l .outputLength)) (counts (step S u (l .frame) (l .file) (l .outputLength) .next) ls)
+    where
+      s : Stepped
+      s = step S u (l .frame) (l .file) (l .outputLength)
+
+      pick : Call u s → (s .next .stage ≤ doneStage → Counted (s .next) ls) → Counted u (l ∷ ls)
+      pick (isRefused e n) r =
+          let n′ = ap (λ (v : State). v .stage) n in let q = r (omega arith) in (omega arith, q .1)
+      pick (isAccepted e l m n) r = let q = r (omega arith) in (omega arith, q .1)
+
+  -- at a stage where no frame is waited for none is accepted
+  abbrev WaitsForNone : State → Type 0
+  WaitsForNone u = ¬ ((1 ≤ u .stage) × (u .stage ≤ 3))
+
+  none : (u : State) (ls : List Lent) → WaitsForNone u → acceptedCount P u ls ≡ 0
+  none u [] h = refl
+  none u (l ∷ ls) h = pick (call u (l .frame) (l .file) (l .outputLength)) (λ v e. none v ls (subst WaitsForNone (sym e) h))
+    where
+      s : Stepped
+      s = step S u (l .frame) (l .file) (l .outputLength)
+
+      pick : Call u s → ((v : State) → v ≡ u → acceptedCount P v ls ≡ 0) → counted (s .result) + acceptedCount P (s .next) ls ≡ 0
+      pick (isRefused e n) r = omega (arith, r (s .next) n)
+      pick (isAccepted e l m n) r = absurd (h (l, m))
+
+  -- the stage moves by exactly the number of accepted frames
+  pub three-frames : ThreeFrames P
+  three-frames =
+      record {
+        counts = λ u ls h. counts u ls h .0;
+        bounded = λ u ls h. counts u ls h .1;
+        idle = λ u ls h. none u ls (λ w. omega (arith, w .0));
+        beyond = λ u ls h. none u ls (λ w. omega (arith, w .1));
+        refusal =
+            λ u l h. let e = step-refused S u (l .frame) (l .file) (l .outputLength) h in
+            (ap (λ (s : Stepped). s .written) e, ap (λ (s : Stepped). s .next) e);
+      }

@@ -1,0 +1,42 @@
+-- Demand 3, for every scheme with a product that is linear on both sides, and for the one of document 01.
+use mathlib.Core.Path.{refl}
+use Rattle.linear_model.proofs.Linearity.{circulant-bilinear}
+use Rattle.pair_model.specs.Scheme.{Scheme, Linear}
+use Rattle.pair_model.specs.Base.{base}
+use Rattle.pair_model.specs.Run.{protocol}
+use Rattle.pair_model.specs.Theorem.{Privacy, Demand3}
+use Rattle.pair_model.proofs.Theorem.Pairing.{pairing, pairedTape, paired-accepted, kept}
+use Rattle.pair_model.proofs.Theorem.MaskLaws.{in-common}
+use Rattle.pair_model.proofs.Theorem.Correct.{correct}
+use Rattle.pair_model.proofs.Theorem.Private.{same-view}
+use Rattle.pair_model.proofs.Theorem.Counting.{three-frames}
+
+-- the tapes are paired by `pairedTape`
+unfoldable pub private : (S : Scheme) → Linear S → Privacy (protocol S)
+unfolding pairing
+private S L fixed a b well₁ well₂ g =
+    record {
+      pairing = pairing S fixed a b;
+      sameView =
+          λ tape h.
+          let u = pairedTape S fixed a b tape in
+          same-view S fixed a b tape u (in-common S L fixed a b tape u g (kept S fixed a b tape h)) L well₁ well₂ h
+          (paired-accepted S fixed a b tape h);
+    }
+
+-- demand 3, whole
+pub demand3 : (S : Scheme) → Linear S → Demand3 (protocol S)
+demand3 S L =
+    record {
+      correctness = λ run well h. correct S L (run .inputs) (run .tape) well h;
+      privacy = private S L;
+      threeFrames = three-frames S;
+    }
+
+-- the circulant product is linear on both sides, and reads no file
+pub base-linear : Linear base
+base-linear = record { bilinear = λ file. circulant-bilinear 32; unread = λ e f g key label. refl }
+
+-- at 256 bits and 81 digits, with the circulant product and the matrix file: no parameter is left
+pub base-demand3 : Demand3 (protocol base)
+base-demand3 = demand3 base base-linear

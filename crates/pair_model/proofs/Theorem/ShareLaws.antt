@@ -1,0 +1,101 @@
+-- The counter's join takes the two share frames of a run, and gives the run's own code.
+use Prim.Native.Nat.{ℕ, _+_, _-_, _*_, _<_}
+use mathlib.Core.Path.{_≡_, refl, ap, _∙_}
+use mathlib.Core.List.{List, [], _∷_}
+use mathlib.Core.Bool.{Bool, true, false, cond, not, _||_}
+use native.Mathlib.Omega.{arith}
+use native.Mathlib.Nat.{le-refl}
+use lib.Dec.{T, ltb, eqb}
+use lib.ListN.{length}
+use Rattle.linear_model.specs.Bits.{Bytes}
+use Rattle.linear_model.specs.Trits.{trit, fitTrits, zeroTrit, zeroTrits}
+use Rattle.linear_model.specs.Products.{planeBytes, rowDigit}
+use Rattle.linear_model.proofs.Tables.{every-of}
+use Rattle.linear_model.proofs.Linearity.{trit-matrix, bytes-matrix, fit-matrix}
+use Rattle.numbers.specs.Number.{_when_, first}
+use Rattle.pair_model.specs.Scheme.{Scheme, Linear, Side, side0, side1, total}
+use Rattle.pair_model.specs.Frame.{shareKind, header, frame, headerBytes, sessionOf, frameBytes, codeBytes}
+use Rattle.pair_model.specs.Evaluator.{codeOf, code}
+use Rattle.pair_model.specs.Unit.{shareOf}
+use Rattle.pair_model.specs.Join.{joinConditions, joinNumber, joined}
+use Rattle.pair_model.specs.Run.{Inputs}
+use Rattle.numbers.proofs.Numbers.{is-true, at-least, equal}
+use Rattle.pair_model.proofs.Theorem.MaskLaws.{share, shares-add}
+use Rattle.pair_model.proofs.Theorem.Stages.{parametersAt}
+
+-- ---- a code share is fit
+
+module _ (S : Scheme) (file v : List ℕ) where
+  -- it has the length of a code
+  pub bytes-code : Bytes (codeBytes S) (codeOf S file v)
+  unfolding codeOf
+  bytes-code =
+      let e : planeBytes (S .digits) + planeBytes (S .digits) ≡ 2 * planeBytes (S .digits) = omega arith in
+      rw e at (bytes-matrix (planeBytes (S .digits)) (S .innerBytes) (S .digits) (S .rows file) v)
+
+  -- no digit has both bits set
+  pub fit-code : T (fitTrits (planeBytes (S .digits)) (S .digits) (codeOf S file v))
+  unfolding codeOf
+  fit-code = fit-matrix (planeBytes (S .digits)) (S .innerBytes) (S .digits) (S .rows file) (S .digits) v (omega arith)
+
+  -- the spare bits of both planes are zero
+  pub spare-code : T (zeroTrits (planeBytes (S .digits)) (S .digits) (codeOf S file v))
+  unfolding codeOf zeroTrits
+  spare-code =
+      every-of (8 * planeBytes (S .digits) - S .digits) (zeroTrit (planeBytes (S .digits)) (S .digits) (codeOf S file v))
+      (λ k l. rw (spare k l) tt)
+    where
+      spare : (k : ℕ) → k < 8 * planeBytes (S .digits) - S .digits → trit (planeBytes (S .digits)) (codeOf S file v) (S .digits + k) ≡ 0
+      spare k l =
+          trit-matrix (planeBytes (S .digits)) (S .innerBytes) (S .digits) (S .rows file) v (S .digits + k) (omega arith)
+          ∙ ap (λ (b : Bool). cond b (rowDigit (S .innerBytes) (S .rows file) v (S .digits + k)) 0) (at-least (S .digits + k) (S .digits) (omega arith))
+
+-- ---- join
+
+module _ (S : Scheme) (a : Inputs) (tape : List ℕ) where
+  -- the share frame of side i
+  abbrev pub shareFrameOf : Side → List ℕ
+  shareFrameOf i = frame shareKind (parametersAt S a tape i) (share S a tape i)
+
+  bytes-share : (i : Side) → Bytes (codeBytes S) (share S a tape i)
+  unfolding share shareOf
+  bytes-share i = bytes-code S (a .file) _
+
+  fit-share : (i : Side) → fitTrits (planeBytes (S .digits)) (S .digits) (share S a tape i) ≡ true
+  unfolding share shareOf
+  fit-share i = is-true (fitTrits (planeBytes (S .digits)) (S .digits) (share S a tape i)) (fit-code S (a .file) _)
+
+  spare-share : (i : Side) → zeroTrits (planeBytes (S .digits)) (S .digits) (share S a tape i) ≡ true
+  unfolding share shareOf
+  spare-share i = is-true (zeroTrits (planeBytes (S .digits)) (S .digits) (share S a tape i)) (spare-code S (a .file) _)
+
+  whole-share : (i : Side) → length (shareFrameOf i) ≡ frameBytes S shareKind
+  unfolding frame header
+  whole-share i = omega (arith, bytes-share i .size)
+
+  long : (i : Side) → ltb (length (shareFrameOf i)) headerBytes ≡ false
+  unfolding frame header
+  long i = at-least (length (shareFrameOf i)) headerBytes (omega arith)
+
+  -- it takes both share frames
+  pub joins-shares : joinNumber S (shareFrameOf side0) (shareFrameOf side1) (codeBytes S) ≡ 0
+  unfolding joinConditions first frame header
+  joins-shares =
+      λ j. first
+      (1 when at-least (codeBytes S) (codeBytes S) (le-refl (codeBytes S)) j
+      ∷ 3 when ((long side0 j || false) || (long side1 j || false))
+      ∷ 4 when (not (whole side0 j) || not (whole side1 j))
+      ∷ 5 when not (equal (sessionOf (shareFrameOf side0)) (sessionOf (shareFrameOf side1)) refl j)
+      ∷ 6 when false
+      ∷ 10 when (not (fit-share side0 j) || not (fit-share side1 j))
+      ∷ 11 when (not (spare-share side0 j) || not (spare-share side1 j))
+      ∷ [])
+    where
+      whole : (i : Side) → eqb (length (shareFrameOf i)) (frameBytes S shareKind) ≡ true
+      whole i = equal (length (shareFrameOf i)) (frameBytes S shareKind) (whole-share i)
+
+  -- and gives the code
+  pub joins-to-code : Linear S
+      → joined S (shareFrameOf side0) (shareFrameOf side1) ≡ code S (total (S .keyBytes) (a .key)) (total (S .keyBytes) (a .label)) (a .file)
+  unfolding joined frame header
+  joins-to-code L = shares-add S L a tape

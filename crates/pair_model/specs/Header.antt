@@ -1,0 +1,30 @@
+-- What a frame is read to: its kind, side, session and body length, or its refusal.
+use Prim.Native.Nat.{ℕ, _-_}
+use mathlib.Core.List.{List}
+use mathlib.Core.Bool.{Bool, true, false, not}
+use lib.Dec.{ltb, eqb}
+use lib.ListN.{length}
+use Rattle.pair_model.specs.Scheme.{Scheme}
+use Rattle.pair_model.specs.Frame.{headerBytes, kindOf, sideOf, sessionOf, frameBytes}
+
+pub data Header : Type 0 where
+  fields : (kind side session body : ℕ) → Header
+  refusal : (number : ℕ) → Header
+
+abbrev pub choose : Bool → Header → Header → Header
+choose true a b = a
+choose false a b = b
+
+-- a frame whose kind may be lowest to highest: 3 where it is shorter than a header or of another kind, 4 where its length is not its kind's
+unfoldable pub readHeader : Scheme → ℕ → ℕ → List ℕ → Header
+readHeader S lowest highest f =
+    choose (ltb (length f) headerBytes) (refusal 3)
+    (choose (ltb (kindOf f) lowest) (refusal 3)
+    (choose (ltb highest (kindOf f)) (refusal 3)
+    (choose (not (eqb (length f) (frameBytes S (kindOf f)))) (refusal 4)
+    (fields (kindOf f) (sideOf f) (sessionOf f) (length f - headerBytes)))))
+
+-- the number of each case
+abbrev pub headerNumber : Header → ℕ
+headerNumber (fields kind side session body) = 0
+headerNumber (refusal number) = number

@@ -1,0 +1,44 @@
+-- The counter's join: two share frames, side 0's first, and the code.
+use Prim.Native.Nat.{ℕ}
+use mathlib.Core.List.{List, [], _∷_}
+use mathlib.Core.Bool.{Bool, not, _||_}
+use lib.Dec.{ltb, eqb}
+use lib.ListN.{length}
+use Rattle.linear_model.specs.Trits.{fitTrits, zeroTrits, addTrits}
+use Rattle.linear_model.specs.Products.{planeBytes}
+use Rattle.numbers.specs.Number.{Condition, _when_, first}
+use Rattle.pair_model.specs.Scheme.{Scheme}
+use Rattle.pair_model.specs.Frame.{shareKind, headerBytes, kindOf, sideOf, sessionOf, bodyOf, frameBytes, codeBytes}
+
+module _ (S : Scheme) where
+  -- a frame that is no share frame, and one of another length
+  abbrev pub notShare : List ℕ → Bool
+  notShare f = ltb (length f) headerBytes || not (eqb (kindOf f) shareKind)
+
+  abbrev pub badLength : List ℕ → Bool
+  badLength f = not (eqb (length f) (frameBytes S shareKind))
+
+  -- a digit with both bits set, and an unused bit that is set
+  abbrev pub unfitShare : List ℕ → Bool
+  unfitShare f = not (fitTrits (planeBytes (S .digits)) (S .digits) (bodyOf f))
+
+  abbrev pub spareSet : List ℕ → Bool
+  spareSet f = not (zeroTrits (planeBytes (S .digits)) (S .digits) (bodyOf f))
+
+  unfoldable pub joinConditions : List ℕ → List ℕ → ℕ → List Condition
+  joinConditions f g outputLength =
+      1 when ltb outputLength (codeBytes S)
+      ∷ 3 when (notShare f || notShare g)
+      ∷ 4 when (badLength f || badLength g)
+      ∷ 5 when not (eqb (sessionOf f) (sessionOf g))
+      ∷ 6 when (not (eqb (sideOf f) 0) || not (eqb (sideOf g) 1))
+      ∷ 10 when (unfitShare f || unfitShare g)
+      ∷ 11 when (spareSet f || spareSet g)
+      ∷ []
+
+  abbrev pub joinNumber : List ℕ → List ℕ → ℕ → ℕ
+  joinNumber f g outputLength = first (joinConditions f g outputLength)
+
+  -- the code: the two shares added modulo 3
+  unfoldable pub joined : List ℕ → List ℕ → List ℕ
+  joined f g = addTrits (planeBytes (S .digits)) (bodyOf f) (bodyOf g)

@@ -1,0 +1,16 @@
+pub mod Scheme
+pub mod Tape
+pub mod Frame
+pub mod Sampler
+pub mod Evaluator
+pub mod Unit
+pub mod Join
+pub mod Dealer
+pub mod Base
+pub mod Run
+pub mod View
+pub mod Theorem
+pub mod Header
+pub mod StateSlice
+pub mod WholeRun
+pub mod Internal

@@ -1,0 +1,2 @@
+// The sampler: a tape from source bytes.
+pub mod sampler;

@@ -1,0 +1,2 @@
+// A unit's state in a slice.
+pub mod slices;

@@ -1,0 +1,122 @@
+// A unit's state as the bytes of a slice: the stage, side and session like a header, then the halves, the deal and the own mask.
+ghost use mathlib.Core.Path.{_≡_};
+ghost use mathlib.Core.List.{_++_};
+ghost use Prim.Native.Nat.{_+_, _≤_};
+ghost use lib.ListN.{length, take, drop};
+ghost use Rattle.numbers.specs.Number.{atFront};
+ghost use Rattle.pair_model.specs.Base.{base};
+ghost use Rattle.pair_model.specs.Frame.{parameters, kindOf, sideOf, sessionOf, bodyOf};
+ghost use Rattle.pair_model.specs.Unit.{advance, stepNumber};
+ghost use Rattle.pair_model.specs.StateSlice.{stateBytes, encodeState, decodeState};
+ghost use Rattle.pair_units.specs.Units.{stateOf, unitOf};
+use linear_words::bytes::put;
+use pair_frames::bytes::array_32;
+use pair_frames::fields::read_deal;
+use pair_frames::frame::header_bytes;
+use pair_frames::frame::session_of;
+use pair_frames::sizes::OPEN_FRAME_BYTES;
+use pair_frames::sizes::STATE_DEAL;
+use pair_frames::sizes::STATE_KEY;
+use pair_frames::sizes::STATE_KEY_MASK;
+use pair_frames::sizes::STATE_LABEL;
+use pair_frames::sizes::STATE_LABEL_MASK;
+use pair_frames::sizes::STATE_OWN_MASK;
+use pair_frames::sizes::STATE_R;
+use pair_frames::sizes::STATE_Z;
+use pair_frames::sizes::TRITS_BYTES;
+use pair_units::state::UnitState;
+use pair_units::state::WAITS_FOR_DEAL;
+use pair_units::steps::advance;
+use pair_units::steps::take_deal;
+
+// Copies a string of 32 bytes to `out` from `at` on. An array that is passed by value brings its length along.
+fn put_32(a: [u8; 32], out: &mut [u8], at: usize)
+    requires { ⌜ at + 32 ≤ length (now out) ⌝ }
+    ensures long { λ _. ⌜ length a ≡ 32 ⌝ }
+    ensures output { λ _. ⌜ now (out .exit) ≡ take at (now (out .entry)) ++ a ++ drop (at + length a) (now (out .entry)) ⌝ }
+{
+    put(&a, out, at);
+}
+
+// The same of the two planes of an inner vector.
+fn put_64(a: [u8; TRITS_BYTES], out: &mut [u8], at: usize)
+    requires { ⌜ at + 64 ≤ length (now out) ⌝ }
+    ensures long { λ _. ⌜ length a ≡ 64 ⌝ }
+    ensures output { λ _. ⌜ now (out .exit) ≡ take at (now (out .entry)) ++ a ++ drop (at + length a) (now (out .entry)) ⌝ }
+{
+    put(&a, out, at);
+}
+
+// Writes a state to a slice.
+pub fn encode(u: UnitState, s: &mut [u8])
+    requires { ⌜ length (now s) ≡ stateBytes base ⌝ }
+    ensures { λ _. ⌜ now (s .exit) ≡ encodeState (stateOf u) ⌝ }
+{
+    let head = header_bytes(u.stage, u.side, u.session);
+    let key = u.key;
+    let label = u.label;
+    let key_mask = u.key_mask;
+    let label_mask = u.label_mask;
+    let z = u.z;
+    let r = u.r;
+    let own_mask = u.own_mask;
+    put(&head, s, 0);
+    put_32(key, s, STATE_KEY);
+    put_32(label, s, STATE_LABEL);
+    put_32(key_mask, s, STATE_KEY_MASK);
+    put_32(label_mask, s, STATE_LABEL_MASK);
+    put_32(z, s, STATE_Z);
+    put_64(r, s, STATE_R);
+    put_32(own_mask, s, STATE_OWN_MASK);
+}
+
+// The state in a slice.
+pub fn decode(s: &[u8]) -> UnitState
+    requires { ⌜ length (now s) ≡ stateBytes base ⌝ }
+    ensures { λ r. ⌜ r ≡ unitOf (decodeState base (now (s .entry))) ⌝ }
+{
+    let d = read_deal(s, STATE_DEAL);
+    let key_mask = d.key_mask;
+    let label_mask = d.label_mask;
+    let z = d.z;
+    let r = d.r;
+    UnitState {
+        side: s[1],
+        session: session_of(s),
+        stage: s[0],
+        key: array_32(s, STATE_KEY),
+        label: array_32(s, STATE_LABEL),
+        key_mask: key_mask,
+        label_mask: label_mask,
+        z: z,
+        r: r,
+        own_mask: array_32(s, STATE_OWN_MASK),
+    }
+}
+
+// Takes a frame that is accepted: the slice has the next state afterwards, and `out` the frame to send, whose length is returned. A deal
+// makes no product, so copies of the state would be most of its time: it goes straight to `take_deal`.
+pub fn advance_slice(state: &mut [u8], f: &[u8], file: &[u8], out: &mut [u8]) -> usize
+    requires { ⌜
+        (length (now state) ≡ stateBytes base)
+        × (stepNumber base (parameters (sideOf (now state)) (sessionOf (now state))) (kindOf (now state)) (now f) (now file) (length (now out)) ≡ 0)
+        ⌝ }
+    ensures count { λ r. ⌜ r ≡ length (advance base (decodeState base (now (state .entry))) (bodyOf (now (f .entry))) (now (file .entry)) .written) ⌝ }
+    ensures state { λ _. ⌜
+        now (state .exit) ≡ encodeState (advance base (decodeState base (now (state .entry))) (bodyOf (now (f .entry))) (now (file .entry)) .next)
+        ⌝ }
+    ensures output { λ _. ⌜
+        now (out .exit) ≡
+        atFront (advance base (decodeState base (now (state .entry))) (bodyOf (now (f .entry))) (now (file .entry)) .written) (now (out .entry))
+        ⌝ }
+{
+    if state[0] == WAITS_FOR_DEAL {
+        let next = take_deal(decode(state), f, out);
+        encode(next, state);
+        return OPEN_FRAME_BYTES;
+    }
+    let a = advance(decode(state), f, file, out);
+    let next = a.next;
+    encode(next, state);
+    a.written
+}

@@ -1,0 +1,87 @@
+-- `pair_units::steps::advance` meets its contract: by what the unit waits for.
+use mathlib.Core.Path.{_≡_, sym, ap, _∙_}
+use native.Mathlib.Omega.{arith}
+use borrow.Author.Needs.{needs}
+use lib.ListN.{length}
+use Rattle.numbers.specs.Number.{atFront}
+use Rattle.pair_model.specs.Base.{base}
+use Rattle.pair_model.specs.Frame.{parameters, frameBytes, bodyOf}
+use Rattle.pair_model.specs.Unit.{Stepped}
+use Rattle.pair_model.proofs.Internal.StepNumbers.{fits}
+use Rattle.pair_model.proofs.Internal.Lengths.{deal-length, open-length, share-length}
+use Rattle.pair_model.proofs.Internal.Advances.{advance-deal, advance-open, advance-mask}
+use Rattle.pair_units.specs.Units.{stateOf, unitOf}
+use Rattle.pair_units.proofs.steps.advance.Statement.{statement}
+use Rattle.pair_units.proofs.steps.advance.Tie as tie
+
+take-deal-requires : tie.Need-take-deal-requires
+take-deal-requires c κs =
+    let s = c .before .before .before .before .before in
+    let u = s .args .u in
+    let h = fits base (parameters (u .side) (u .session)) (u .stage) (s .args .f .now) (s .args .file .now) (length (s .args .out .now)) (s .pre) in
+    (h .frame-length ∙ ap (frameBytes base) (c .before .if1 .taken), h .room)
+
+returns : tie.Need-returns
+returns c =
+    let a = c .before .before .before .before .before .before .before .before .args in
+    let u = stateOf (a .u) in
+    let b = bodyOf (a .f .now) in
+    let e = sym (advance-deal u b (a .file .now) (c .before .before .before .before .if1 .taken)) in
+    let t = c .before .before .take-deal .ensures in (
+      deal-length u b ∙ ap (λ (s : Stepped). length (s .written)) e,
+      (t .0 ∙ ap (λ (s : Stepped). unitOf (s .next)) e, t .1 ∙ ap (λ (s : Stepped). atFront (s .written) (a .out .now)) e),
+    )
+
+take-open-requires : tie.Need-take-open-requires
+take-open-requires c κs =
+    let s = c .before .before .before .before .before .before in
+    let u = s .args .u in
+    let h = fits base (parameters (u .side) (u .session)) (u .stage) (s .args .f .now) (s .args .file .now) (length (s .args .out .now)) (s .pre) in
+    (h .frame-length ∙ ap (frameBytes base) (c .before .if2 .taken), h .room)
+
+returns-2 : tie.Need-returns-2
+returns-2 c =
+    let a = c .before .before .before .before .before .before .before .before .before .args in
+    let u = stateOf (a .u) in
+    let b = bodyOf (a .f .now) in
+    let e = sym (advance-open u b (a .file .now) (c .before .before .before .before .if2 .taken)) in
+    let t = c .before .before .take-open .ensures in (
+      open-length u b _ ∙ ap (λ (s : Stepped). length (s .written)) e,
+      (t .0 ∙ ap (λ (s : Stepped). unitOf (s .next)) e, t .1 ∙ ap (λ (s : Stepped). atFront (s .written) (a .out .now)) e),
+    )
+
+take-mask-requires : tie.Need-take-mask-requires
+take-mask-requires c κs =
+    let s = c .before .before .before .before .before .before in
+    let u = s .args .u in
+    let h = fits base (parameters (u .side) (u .session)) (u .stage) (s .args .f .now) (s .args .file .now) (length (s .args .out .now)) (s .pre) in
+    let m : u .stage ≡ 3 = omega (arith, h .low, h .high) in
+    (h .frame-length ∙ ap (frameBytes base) m, omega (arith, h .room), h .file-length m)
+
+returns-3 : tie.Need-returns-3
+returns-3 c =
+    let s = c .before .before .before .before .before .before .before .before .before in
+    let a = s .args in
+    let u = stateOf (a .u) in
+    let b = bodyOf (a .f .now) in
+    let h = fits base (u .parameters) (u .stage) (a .f .now) (a .file .now) (length (a .out .now)) (s .pre) in
+    let m : u .stage ≡ 3 = omega (arith, h .low, h .high) in
+    let e = sym (advance-mask u b (a .file .now) m) in
+    let t = c .before .before .take-mask .ensures in (
+      share-length u b (a .file .now) ∙ ap (λ (s : Stepped). length (s .written)) e,
+      (t .0 ∙ ap (λ (s : Stepped). unitOf (s .next)) e, t .1 ∙ ap (λ (s : Stepped). atFront (s .written) (a .out .now)) e),
+    )
+
+pub advance-spec : {M : Type 1} → statement M
+advance-spec =
+    tie.close
+    (tie.spec
+    take-deal-requires
+    (λ c. search needs)
+    returns
+    take-open-requires
+    (λ c. search needs)
+    returns-2
+    take-mask-requires
+    (λ c. search needs)
+    returns-3)

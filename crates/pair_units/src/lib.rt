@@ -1,0 +1,5 @@
+// The unit: its state, its beginning and its step.
+pub mod begin;
+pub mod state;
+pub mod steps;
+pub mod unit;

@@ -1,0 +1,52 @@
+// The step of a unit.
+ghost use mathlib.Core.Path.{_≡_};
+ghost use lib.ListN.{length};
+ghost use Rattle.numbers.specs.Number.{atFront};
+ghost use Rattle.pair_model.specs.Base.{base};
+ghost use Rattle.pair_model.specs.Unit.{step};
+ghost use Rattle.pair_model.specs.Run.{protocol};
+ghost use Rattle.pair_model.specs.Theorem.{Demand3};
+ghost use Rattle.pair_units.specs.Units.{stateOf, unitOf};
+use crate::state::UnitState;
+use crate::steps::advance;
+use numbers::table::DONE;
+use pair_conditions::conditions::step_number;
+
+// What a step returns, how much it wrote, and the next state.
+pub struct Stepped {
+    pub result: u32,
+    pub written: usize,
+    pub next: UnitState,
+}
+
+impl UnitState {
+    // One frame: the number, how much was written to `out`, and the next state. The last clause is the theorem over all lists of
+    // steps, so that it cannot be dropped unseen.
+    pub fn step(self, f: &[u8], file: &[u8], out: &mut [u8]) -> Stepped
+        ensures result { λ r. ⌜ r .result ≡ step base (stateOf self) (now (f .entry)) (now (file .entry)) (length (now (out .entry))) .result ⌝ }
+        ensures count { λ r. ⌜
+            r .written ≡ length (step base (stateOf self) (now (f .entry)) (now (file .entry)) (length (now (out .entry))) .written)
+            ⌝ }
+        ensures next { λ r. ⌜ r .next ≡ unitOf (step base (stateOf self) (now (f .entry)) (now (file .entry)) (length (now (out .entry))) .next) ⌝ }
+        ensures output { λ _. ⌜
+            now (out .exit) ≡ atFront (step base (stateOf self) (now (f .entry)) (now (file .entry)) (length (now (out .entry))) .written) (now (out .entry))
+            ⌝ }
+        ensures theorem { λ _. ⌜ Demand3 (protocol base) ⌝ }
+    {
+        let number = step_number(self.side, self.session, self.stage, f, file, out.len());
+        if number != DONE {
+            return Stepped {
+                result: number,
+                written: 0,
+                next: self,
+            };
+        }
+        let a = advance(self, f, file, out);
+        let next = a.next;
+        Stepped {
+            result: DONE,
+            written: a.written,
+            next: next,
+        }
+    }
+}

@@ -1,0 +1,2 @@
+// A whole run in one place.
+pub mod run;

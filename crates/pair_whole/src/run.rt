@@ -1,0 +1,230 @@
+// What the program does as one call: the dealer and both units in session 1, frame by frame, and the counter's sum. What must be
+// accepted is not judged again: the file is checked once, and no branch depends on the shares.
+ghost use mathlib.Core.Path.{_≡_};
+ghost use mathlib.Core.List.{[]};
+ghost use mathlib.Core.Bool.{cond};
+ghost use lib.Dec.{eqb};
+ghost use lib.ListN.{length, take};
+ghost use Rattle.numbers.specs.Number.{output};
+ghost use Rattle.pair_model.specs.Scheme.{side0, side1};
+ghost use Rattle.pair_model.specs.Base.{base};
+ghost use Rattle.pair_model.specs.Dealer.{dealFrame};
+ghost use Rattle.pair_model.specs.Frame.{parameters, maskKind, frameBytes, codeBytes, bodyOf};
+ghost use Rattle.pair_model.specs.Unit.{begin, leastOutput, stepNumber, step, takeMask};
+ghost use Rattle.pair_model.specs.WholeRun.{inputBytes, inputKey, inputLabel, inputTape, inputFile, runNumber, runCode};
+ghost use Rattle.pair_model.specs.Internal.Exchange.{Sends, RunFits};
+ghost use Rattle.pair_units.specs.Units.{stateOf};
+use linear::trits::trits_fit;
+use matrix::file::matrix_check;
+use numbers::table::BLOCK_CHECK;
+use numbers::table::BLOCK_LAYOUT;
+use numbers::table::DONE;
+use numbers::table::UNFIT_TRIT;
+use numbers::table::WRONG_LENGTH;
+use pair_counter::join::add_shares;
+use pair_dealer::dealer::deal;
+use pair_frames::sizes::CODE_BYTES;
+use pair_frames::sizes::DEAL_FRAME_BYTES;
+use pair_frames::sizes::DEALT_BYTES;
+use pair_frames::sizes::INNER_TRITS;
+use pair_frames::sizes::INPUT_BYTES;
+use pair_frames::sizes::INPUT_FILE;
+use pair_frames::sizes::INPUT_KEY_0;
+use pair_frames::sizes::INPUT_KEY_1;
+use pair_frames::sizes::INPUT_LABEL_0;
+use pair_frames::sizes::INPUT_LABEL_1;
+use pair_frames::sizes::INPUT_TAPE;
+use pair_frames::sizes::MASK_FRAME_BYTES;
+use pair_frames::sizes::OPEN_FRAME_BYTES;
+use pair_frames::sizes::SHARE_FRAME_BYTES;
+use pair_frames::sizes::TAPE_R;
+use pair_units::begin::begin;
+use pair_units::state::UnitState;
+use pair_units::steps::advance;
+use pair_units::steps::take_mask;
+
+// What a unit sends, in the front of the least output slice, and the unit afterwards.
+struct Sent {
+    frame: [u8; OPEN_FRAME_BYTES],
+    next: UnitState,
+}
+
+// A step at a frame that is accepted, so that it is not judged again.
+fn send(u: UnitState, f: &[u8], file: &[u8]) -> Sent
+    requires { ⌜ stepNumber base (parameters (u .side) (u .session)) (u .stage) (now f) (now file) (leastOutput base) ≡ 0 ⌝ }
+    ensures { λ r. ⌜ Sends (step base (stateOf u) (now (f .entry)) (now (file .entry)) (leastOutput base)) (r .frame) (stateOf (r .next)) ⌝ }
+{
+    let mut frame = [0u8; OPEN_FRAME_BYTES];
+    let a = advance(u, f, file, &mut frame);
+    let next = a.next;
+    Sent {
+        frame: frame,
+        next: next,
+    }
+}
+
+// What both units have sent, and both afterwards.
+struct Round {
+    frame0: [u8; OPEN_FRAME_BYTES],
+    frame1: [u8; OPEN_FRAME_BYTES],
+    next0: UnitState,
+    next1: UnitState,
+}
+
+// What both have sent.
+fn both(first: Sent, second: Sent) -> Round
+    ensures first { λ r. ⌜ (r .frame0 ≡ first .frame) × (r .next0 ≡ first .next) ⌝ }
+    ensures second { λ r. ⌜ (r .frame1 ≡ second .frame) × (r .next1 ≡ second .next) ⌝ }
+{
+    let frame0 = first.frame;
+    let next0 = first.next;
+    let frame1 = second.frame;
+    let next1 = second.next;
+    Round {
+        frame0: frame0,
+        frame1: frame1,
+        next0: next0,
+        next1: next1,
+    }
+}
+
+// Each unit takes what the other has sent.
+fn exchange(b: Round, file: &[u8]) -> Round
+    requires { ⌜
+        (stepNumber base (parameters (b .next0 .side) (b .next0 .session)) (b .next0 .stage) (b .frame1) (now file) (leastOutput base) ≡ 0)
+        × (stepNumber base (parameters (b .next1 .side) (b .next1 .session)) (b .next1 .stage) (b .frame0) (now file) (leastOutput base) ≡ 0)
+        ⌝ }
+    ensures first { λ r. ⌜ Sends (step base (stateOf (b .next0)) (b .frame1) (now (file .entry)) (leastOutput base)) (r .frame0) (stateOf (r .next0)) ⌝ }
+    ensures second { λ r. ⌜ Sends (step base (stateOf (b .next1)) (b .frame0) (now (file .entry)) (leastOutput base)) (r .frame1) (stateOf (r .next1)) ⌝ }
+{
+    let sent0 = b.frame0;
+    let sent1 = b.frame1;
+    let unit0 = b.next0;
+    let unit1 = b.next1;
+    let first = send(unit0, &sent1, file);
+    let second = send(unit1, &sent0, file);
+    both(first, second)
+}
+
+// The beginning of unit `side` and its step at the deal.
+fn start(side: u32, key: &[u8], label: &[u8], f: &[u8], file: &[u8]) -> Sent
+    requires { ⌜
+        stepNumber base (begin base side 1 (now key) (now label) .next .parameters) (begin base side 1 (now key) (now label) .next .stage)
+        (now f) (now file) (leastOutput base) ≡ 0
+        ⌝ }
+    ensures { λ r. ⌜
+        Sends (step base (begin base side 1 (now (key .entry)) (now (label .entry)) .next) (now (f .entry)) (now (file .entry)) (leastOutput base))
+        (r .frame) (stateOf (r .next))
+        ⌝ }
+{
+    let b = begin(side, 1, key, label);
+    let u = b.next;
+    send(u, f, file)
+}
+
+// The deal of the input's tape, and both units' first step.
+fn first_round(input: &[u8]) -> Round
+    requires { ⌜ RunFits (now input) (codeBytes base) ⌝ }
+    ensures first { λ r. ⌜
+        Sends
+        (step base (begin base 0 1 (inputKey base (now (input .entry)) side0) (inputLabel base (now (input .entry)) side0) .next)
+        (dealFrame base 1 [] (inputTape base (now (input .entry))) side0) (inputFile base (now (input .entry))) (leastOutput base))
+        (r .frame0) (stateOf (r .next0))
+        ⌝ }
+    ensures second { λ r. ⌜
+        Sends
+        (step base (begin base 1 1 (inputKey base (now (input .entry)) side1) (inputLabel base (now (input .entry)) side1) .next)
+        (dealFrame base 1 [] (inputTape base (now (input .entry))) side1) (inputFile base (now (input .entry))) (leastOutput base))
+        (r .frame1) (stateOf (r .next1))
+        ⌝ }
+{
+    let mut dealt = [0u8; DEALT_BYTES];
+    deal(1, &input[INPUT_TAPE..INPUT_FILE], &mut dealt);
+    let file = &input[INPUT_FILE..INPUT_BYTES];
+    let first = start(
+        0,
+        &input[INPUT_KEY_0..INPUT_KEY_1],
+        &input[INPUT_LABEL_0..INPUT_LABEL_1],
+        &dealt[0..DEAL_FRAME_BYTES],
+        file,
+    );
+    let second = start(
+        1,
+        &input[INPUT_KEY_1..INPUT_LABEL_0],
+        &input[INPUT_LABEL_1..INPUT_TAPE],
+        &dealt[DEAL_FRAME_BYTES..DEALT_BYTES],
+        file,
+    );
+    both(first, second)
+}
+
+// A unit's share frame: what its step writes at the mask frame in the front of what the other has sent.
+fn share_frame(u: UnitState, sent: [u8; OPEN_FRAME_BYTES], file: &[u8]) -> [u8; SHARE_FRAME_BYTES]
+    requires { ⌜ length (now file) ≡ base .fileBytes ⌝ }
+    ensures { λ r. ⌜ r ≡ takeMask base (stateOf u) (bodyOf (take (frameBytes base maskKind) sent)) (now (file .entry)) .written ⌝ }
+{
+    let mut frame = [0u8; SHARE_FRAME_BYTES];
+    take_mask(u, &sent[0..MASK_FRAME_BYTES], file, &mut frame);
+    frame
+}
+
+// Runs both units on an input that fits, and adds their shares.
+fn run_units(input: &[u8], out: &mut [u8])
+    requires { ⌜ RunFits (now input) (length (now out)) ⌝ }
+    ensures { λ _. ⌜ now (out .exit) ≡ output 0 (runCode base (now (input .entry))) (now (out .entry)) ⌝ }
+{
+    let file = &input[INPUT_FILE..INPUT_BYTES];
+    let one = first_round(input);
+    let two = exchange(one, file);
+    let mask0 = two.frame0;
+    let mask1 = two.frame1;
+    let unit0 = two.next0;
+    let unit1 = two.next1;
+    let share0 = share_frame(unit0, mask1, file);
+    let share1 = share_frame(unit1, mask0, file);
+    add_shares(&share0, &share1, out);
+}
+
+// The number of an input whose tape has a trit with both bits set, of its file's.
+fn with_unfit_tape(number: u32) -> u32
+    ensures { λ r. ⌜ r ≡ cond (eqb number 8) 8 (cond (eqb number 9) 9 10) ⌝ }
+{
+    if number == BLOCK_CHECK {
+        return BLOCK_CHECK;
+    }
+    if number == BLOCK_LAYOUT {
+        BLOCK_LAYOUT
+    } else {
+        UNFIT_TRIT
+    }
+}
+
+// The lowest number over all of the input.
+fn run_number(input: &[u8], room: usize) -> u32
+    ensures { λ r. ⌜ r ≡ runNumber (now (input .entry)) room ⌝ }
+{
+    if input.len() != INPUT_BYTES {
+        return WRONG_LENGTH;
+    }
+    if room < CODE_BYTES {
+        return WRONG_LENGTH;
+    }
+    let number = matrix_check(&input[INPUT_FILE..INPUT_BYTES]);
+    if trits_fit(&input[INPUT_TAPE + TAPE_R..INPUT_FILE], INNER_TRITS) {
+        return number;
+    }
+    with_unfit_tape(number)
+}
+
+// The lowest number over all of the input, or 0 and the code, by running the dealer and both units in session 1.
+pub fn run(input: &[u8], out: &mut [u8]) -> u32
+    ensures result { λ r. ⌜ r ≡ runNumber (now (input .entry)) (length (now (out .entry))) ⌝ }
+    ensures output { λ r. ⌜ now (out .exit) ≡ output r (runCode base (now (input .entry))) (now (out .entry)) ⌝ }
+{
+    let number = run_number(input, out.len());
+    if number != DONE {
+        return number;
+    }
+    run_units(input, out);
+    DONE
+}

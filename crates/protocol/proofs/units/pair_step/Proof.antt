@@ -1,0 +1,71 @@
+-- `protocol::units::pair_step` meets its contract: the number decides, and then the slice moves on. The theorem is Main's.
+use mathlib.Core.Path.{_≡_, sym, ap, _∙_}
+use mathlib.Core.List.{List}
+use Prim.Native.Nat.{ℕ}
+use borrow.Author.Needs.{needs}
+use lib.ListN.{length, getD}
+use Rattle.numbers.specs.Number.{atFront}
+use Rattle.pair_model.specs.Base.{base}
+use Rattle.pair_model.specs.Frame.{parameters, sessionOf}
+use Rattle.pair_model.specs.Unit.{stepNumber}
+use Rattle.pair_model.specs.StateSlice.{decodeState}
+use Rattle.pair_model.proofs.Internal.Encodings.{step-short, slice-refused, slice-accepted}
+use Rattle.pair_model.proofs.Theorem.Main.{base-demand3}
+use Rattle.protocol.proofs.units.pair_step.Statement.{statement}
+use Rattle.protocol.proofs.units.pair_step.Tie as tie
+
+-- the number by the slice's bytes is that of its state
+of-state : (s f file : List ℕ) (n session : ℕ) → session ≡ sessionOf s
+    → stepNumber base (parameters (getD s 1 0) session) (getD s 0 0) f file n ≡ stepNumber base (decodeState base s .parameters) (decodeState base s .stage) f file n
+unfolding decodeState
+of-state s f file n session e = ap (λ (x : ℕ). stepNumber base (parameters (getD s 1 0) x) (getD s 0 0) f file n) e
+
+returns : tie.Need-returns
+returns c =
+    let a = c .before .before .before .before .before .args in
+    let b = step-short base (a .state .now) (c .if1 .taken) (a .f .now) (a .file .now) (length (a .out .now)) in
+    (b .0, (b .1, (rw (b .2), (rw (b .2), base-demand3))))
+
+returns-2 : tie.Need-returns-2
+returns-2 c =
+    let a = c .before .before .before .before .before .before .before .before .before .before .before .args in
+    let e = c .before .step-number .ensures ∙ of-state (a .state .now) (a .f .now) (a .file .now) (length (a .out .now)) _ (c .before .before .before .session-of .ensures) in
+    let b = slice-refused base (a .state .now) (c .before .before .before .before .before .before .if1 .left) (a .f .now) (a .file .now) (length (a .out .now)) (λ z. c .if2 .taken (e ∙ z)) in
+    (e ∙ b .0, (b .1, (ap (λ (w : List ℕ). atFront w (a .out .now)) (b .2), (ap length (b .2), base-demand3))))
+
+advance-slice-requires : tie.Need-advance-slice-requires
+advance-slice-requires c κs =
+    let a = c .before .before .before .before .before .before .before .before .before .before .before .before .before .args in
+    let s = a .state .now in (
+      c .before .before .before .before .before .before .before .before .if1 .left,
+      ap (λ (x : ℕ). stepNumber base (parameters (getD s 1 0) x) (getD s 0 0) (a .f .now) (a .file .now) (length (a .out .now))) (sym (c .before .before .before .before .before .session-of .ensures))
+          ∙ sym (c .before .before .before .step-number .ensures) ∙ c .before .before .if2 .left,
+    )
+
+returns-3 : tie.Need-returns-3
+returns-3 c =
+    let a = c .before .before .before .before .before .before .before .before .before .before .before .before .before .before .before .before .before .before .args in
+    let s = a .state .now in
+    let f = a .f .now in
+    let file = a .file .now in
+    let o = a .out .now in
+    let z = sym (c .before .before .before .before .before .before .before .before .step-number .ensures ∙ of-state s f file (length o) _ (c .before .before .before .before .before .before .before .before .before .before .session-of .ensures)) ∙ c .before .before .before .before .before .before .before .if2 .left in
+    let b = slice-accepted base s (c .before .before .before .before .before .before .before .before .before .before .before .before .before .if1 .left) f file (length o) z in
+    let v = c .before .before .before .before .advance-slice .ensures in
+    (b .0, (v .1 .0 ∙ b .1, (v .1 .1 ∙ ap (λ (w : List ℕ). atFront w o) (b .2), (v .0 ∙ ap length (b .2), base-demand3))))
+
+pub pair-step-spec : {M : Type 1} → statement M
+pair-step-spec =
+    tie.close
+    (tie.spec
+    returns
+    (λ c. search needs)
+    (λ c κs. search needs)
+    (λ c. search needs)
+    (λ c κs. search needs)
+    (λ c. search needs)
+    returns-2
+    advance-slice-requires
+    (λ c. search needs)
+    (λ c. search needs)
+    returns-3)

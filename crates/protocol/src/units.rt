@@ -1,0 +1,75 @@
+// The C interface of the units: a state stands in a slice that the caller keeps. Each function is total over slices, answers a number of
+// the table, and neither allocates nor keeps a pointer.
+ghost use mathlib.Core.Path.{_≡_};
+ghost use lib.ListN.{length};
+ghost use Rattle.numbers.specs.Number.{atFront};
+ghost use Rattle.pair_model.specs.Base.{base};
+ghost use Rattle.pair_model.specs.Unit.{State};
+ghost use Rattle.pair_model.specs.Run.{protocol};
+ghost use Rattle.pair_model.specs.Theorem.{Demand3};
+ghost use Rattle.pair_model.specs.StateSlice.{encodeState, decodeState, Sized, pairBeginNumber, pairBeginState, pairStepNumber, pairStepState, pairStepWritten};
+use numbers::table::DONE;
+use numbers::table::WRONG_LENGTH;
+use pair_conditions::conditions::step_number;
+use pair_frames::frame::session_of;
+use pair_frames::sizes::STATE_BYTES;
+use pair_states::slices::advance_slice;
+use pair_states::slices::encode;
+use pair_units::begin::begin;
+
+// Begins a unit in a slice; a refused beginning writes the idle state. A state that is written reads back.
+#[no_mangle]
+pub extern "C" fn pair_begin(
+    side: u32,
+    session: u32,
+    key: &[u8],
+    label: &[u8],
+    state: &mut [u8],
+) -> u32
+    ensures result { λ r. ⌜ r ≡ pairBeginNumber base side (now (key .entry)) (now (label .entry)) (now (state .entry)) ⌝ }
+    ensures state { λ _. ⌜ now (state .exit) ≡ pairBeginState base side session (now (key .entry)) (now (label .entry)) (now (state .entry)) ⌝ }
+    ensures round_trip { λ _. ⌜ ((u : State) → Sized base u → decodeState base (encodeState u) ≡ u) ⌝ }
+{
+    if state.len() != STATE_BYTES {
+        return WRONG_LENGTH;
+    }
+    let b = begin(side, session, key, label);
+    let next = b.next;
+    encode(next, state);
+    b.result
+}
+
+// One step of the unit in a slice: what it writes goes to `out`, and how much to `count`; a refused step leaves the slice as it was. It is
+// made of the same two calls as `UnitState::step`, and the theorem stands here too.
+#[no_mangle]
+pub extern "C" fn pair_step(
+    state: &mut [u8],
+    f: &[u8],
+    file: &[u8],
+    out: &mut [u8],
+    count: &mut u64,
+) -> u32
+    ensures result { λ r. ⌜ r ≡ pairStepNumber base (now (state .entry)) (now (f .entry)) (now (file .entry)) (length (now (out .entry))) ⌝ }
+    ensures state { λ _. ⌜
+        now (state .exit) ≡ pairStepState base (now (state .entry)) (now (f .entry)) (now (file .entry)) (length (now (out .entry)))
+        ⌝ }
+    ensures output { λ _. ⌜
+        now (out .exit) ≡
+        atFront (pairStepWritten base (now (state .entry)) (now (f .entry)) (now (file .entry)) (length (now (out .entry)))) (now (out .entry))
+        ⌝ }
+    ensures count { λ _. ⌜
+        now (count .exit) ≡ length (pairStepWritten base (now (state .entry)) (now (f .entry)) (now (file .entry)) (length (now (out .entry))))
+        ⌝ }
+    ensures theorem { λ _. ⌜ Demand3 (protocol base) ⌝ }
+{
+    *count = 0;
+    if state.len() != STATE_BYTES {
+        return WRONG_LENGTH;
+    }
+    let number = step_number(state[1], session_of(state), state[0], f, file, out.len());
+    if number != DONE {
+        return number;
+    }
+    *count = advance_slice(state, f, file, out) as u64;
+    DONE
+}

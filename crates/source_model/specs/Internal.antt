@@ -1,0 +1,2 @@
+-- What only the reader's contracts cite.
+pub mod Reading

@@ -1,0 +1,1 @@
+// Pairs of bits of a random source: definitions and laws; no function.
