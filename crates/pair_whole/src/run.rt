@@ -2,8 +2,6 @@
 // accepted is not judged again: the file is checked once, and no branch depends on the shares.
 ghost use mathlib.Core.Path.{_≡_};
 ghost use mathlib.Core.List.{[]};
-ghost use mathlib.Core.Bool.{cond};
-ghost use lib.Dec.{eqb};
 ghost use lib.ListN.{length, take};
 ghost use Rattle.numbers.specs.Number.{output};
 ghost use Rattle.pair_model.specs.Scheme.{side0, side1};
@@ -14,19 +12,11 @@ ghost use Rattle.pair_model.specs.Unit.{begin, leastOutput, stepNumber, step, t
 ghost use Rattle.pair_model.specs.WholeRun.{inputBytes, inputKey, inputLabel, inputTape, inputFile, runNumber, runCode};
 ghost use Rattle.pair_model.specs.Internal.Exchange.{Sends, RunFits};
 ghost use Rattle.pair_units.specs.Units.{stateOf};
-use linear::trits::trits_fit;
-use matrix::file::matrix_check;
-use numbers::table::BLOCK_CHECK;
-use numbers::table::BLOCK_LAYOUT;
 use numbers::table::DONE;
-use numbers::table::UNFIT_TRIT;
-use numbers::table::WRONG_LENGTH;
 use pair_counter::join::add_shares;
 use pair_dealer::dealer::deal;
-use pair_frames::sizes::CODE_BYTES;
 use pair_frames::sizes::DEAL_FRAME_BYTES;
 use pair_frames::sizes::DEALT_BYTES;
-use pair_frames::sizes::INNER_TRITS;
 use pair_frames::sizes::INPUT_BYTES;
 use pair_frames::sizes::INPUT_FILE;
 use pair_frames::sizes::INPUT_KEY_0;
@@ -37,7 +27,7 @@ use pair_frames::sizes::INPUT_TAPE;
 use pair_frames::sizes::MASK_FRAME_BYTES;
 use pair_frames::sizes::OPEN_FRAME_BYTES;
 use pair_frames::sizes::SHARE_FRAME_BYTES;
-use pair_frames::sizes::TAPE_R;
+use pair_input::input::run_number;
 use pair_units::begin::begin;
 use pair_units::state::UnitState;
 use pair_units::steps::advance;
@@ -183,37 +173,6 @@ fn run_units(input: &[u8], out: &mut [u8])
     let share0 = share_frame(unit0, mask1, file);
     let share1 = share_frame(unit1, mask0, file);
     add_shares(&share0, &share1, out);
-}
-
-// The number of an input whose tape has a trit with both bits set, of its file's.
-fn with_unfit_tape(number: u32) -> u32
-    ensures { λ r. ⌜ r ≡ cond (eqb number 8) 8 (cond (eqb number 9) 9 10) ⌝ }
-{
-    if number == BLOCK_CHECK {
-        return BLOCK_CHECK;
-    }
-    if number == BLOCK_LAYOUT {
-        BLOCK_LAYOUT
-    } else {
-        UNFIT_TRIT
-    }
-}
-
-// The lowest number over all of the input.
-fn run_number(input: &[u8], room: usize) -> u32
-    ensures { λ r. ⌜ r ≡ runNumber (now (input .entry)) room ⌝ }
-{
-    if input.len() != INPUT_BYTES {
-        return WRONG_LENGTH;
-    }
-    if room < CODE_BYTES {
-        return WRONG_LENGTH;
-    }
-    let number = matrix_check(&input[INPUT_FILE..INPUT_BYTES]);
-    if trits_fit(&input[INPUT_TAPE + TAPE_R..INPUT_FILE], INNER_TRITS) {
-        return number;
-    }
-    with_unfit_tape(number)
 }
 
 // The lowest number over all of the input, or 0 and the code, by running the dealer and both units in session 1.

@@ -1,7 +1,7 @@
--- `pair_whole::run::with_unfit_tape` meets its contract: each return rewrites with the tests that led there.
+-- `pair_input::input::with_unfit_tape` meets its contract: each return rewrites with the tests that led there.
 use borrow.Author.Tests.{eq-eqb, ne-eqb}
-use Rattle.pair_whole.proofs.run.with_unfit_tape.Statement.{statement}
-use Rattle.pair_whole.proofs.run.with_unfit_tape.Tie as tie
+use Rattle.pair_input.proofs.input.with_unfit_tape.Statement.{statement}
+use Rattle.pair_input.proofs.input.with_unfit_tape.Tie as tie
 
 returns : tie.Need-returns
 returns c = rw (eq-eqb _ _ (c .if1 .taken))

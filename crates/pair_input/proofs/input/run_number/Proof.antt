@@ -1,4 +1,4 @@
--- `pair_whole::run::run_number` meets its contract: the file's number, and 10 before its 12 where the tape is unfit.
+-- `pair_input::input::run_number` meets its contract: the file's number, and 10 before its 12 where the tape is unfit.
 use mathlib.Core.Path.{_≡_, sym, ap, _∙_}
 use native.Mathlib.Omega.{arith}
 use borrow.Author.Needs.{needs}
@@ -8,8 +8,8 @@ use Rattle.linear_model.specs.Trits.{fitTrits}
 use Rattle.matrix_model.specs.File.{checkNumber}
 use Rattle.pair_model.proofs.Internal.Contents.{fit-vector}
 use Rattle.pair_model.proofs.Internal.Runs.{run-length, run-room, run-fit, run-unfit, file-is, file-length, r0-is}
-use Rattle.pair_whole.proofs.run.run_number.Statement.{statement}
-use Rattle.pair_whole.proofs.run.run_number.Tie as tie
+use Rattle.pair_input.proofs.input.run_number.Statement.{statement}
+use Rattle.pair_input.proofs.input.run_number.Tie as tie
 
 returns : tie.Need-returns
 returns c = run-length _ _ (c .if1 .taken)

@@ -1,0 +1,2 @@
+// The number of the program's input.
+pub mod input;
