@@ -8,7 +8,7 @@ ghost use lib.ListN.{length};
 ghost use lib.Bits.{bitOr};
 ghost use Rattle.linear_model.specs.Bits.{bitAt};
 ghost use Rattle.linear_model.specs.Products.{bitRow, circulant};
-ghost use Rattle.linear_model.specs.Internal.Words.{FourWords, masked};
+ghost use Rattle.linear_model.specs.Internal.Words.{FourWords, four, masked};
 use linear_words::words;
 use linear_words::words::Four;
 
@@ -82,7 +82,7 @@ fn masks(x: Four) -> Four
 
 // `acc`, to which four words are added under their masks.
 fn add_masked(acc: u64, x: Four, m: Four) -> u64
-    ensures { λ r. ⌜ ((k : ℕ) → bitAt r k ≡ masked acc (x .a) (x .b) (x .c) (x .d) (m .a) (m .b) (m .c) (m .d) k) ⌝ }
+    ensures { λ r. ⌜ ((k : ℕ) → bitAt r k ≡ masked acc (four (x .a) (x .b) (x .c) (x .d)) (four (m .a) (m .b) (m .c) (m .d)) k) ⌝ }
 {
     acc ^ ((x.a & m.a) ^ (x.b & m.b) ^ (x.c & m.c) ^ (x.d & m.d))
 }

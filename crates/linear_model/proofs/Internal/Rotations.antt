@@ -10,7 +10,7 @@ use lib.Pow.{shr-shr}
 use Rattle.linear_model.specs.Tables.{from, sum, every}
 use Rattle.linear_model.specs.Bits.{bitAt, bit, fromBits}
 use Rattle.linear_model.specs.Products.{bitTerm, bitRow, circulant}
-use Rattle.linear_model.specs.Internal.Words.{masked, FourWords}
+use Rattle.linear_model.specs.Internal.Words.{Four, four, masked, FourWords}
 use Rattle.linear_model.proofs.Tables.{every-at, same₁}
 use Rattle.linear_model.proofs.NumberBits.{from-bits-none, from-bits-ext, from-bits-of, bit-at-from-bits, bit-at-xor, bit-at-and}
 use Rattle.linear_model.proofs.Sums.{sum-more, sum-split, sum-ext, sum-zero}
@@ -25,9 +25,9 @@ mask-bit-at b k h l =
     same₁ 64 (bitAt (b * 0xffffffffffffffff)) (λ _. b) (every-at 2 (λ b. every 64 (λ k. eqb (bitAt (b * 0xffffffffffffffff) k) b)) tt b h) k l
 
 -- exclusive or of four words under their masks
-pub masked-bit-at : (s a b c d ka kb kc kd k : ℕ)
-    → bitAt (bitXor s (bitXor (bitXor (bitXor (bitAnd a ka) (bitAnd b kb)) (bitAnd c kc)) (bitAnd d kd))) k ≡ masked s a b c d ka kb kc kd k
-masked-bit-at s a b c d ka kb kc kd k =
+pub masked-bit-at : (s : ℕ) (x m : Four) (k : ℕ)
+    → bitAt (bitXor s (bitXor (bitXor (bitXor (bitAnd (x .a) (m .a)) (bitAnd (x .b) (m .b))) (bitAnd (x .c) (m .c))) (bitAnd (x .d) (m .d)))) k ≡ masked s x m k
+masked-bit-at s x m k =
     rw (bit-at-xor, bit-at-xor, bit-at-xor, bit-at-xor, bit-at-and, bit-at-and, bit-at-and, bit-at-and) (flat (bitAt s k) _ _ _ _)
   where
     flat : (s a b c d : ℕ) → (s + (((a + b) % 2 + c) % 2 + d) % 2) % 2 ≡ (s + a + b + c + d) % 2
@@ -183,7 +183,7 @@ key-masks key q ka kb kc kd {a} {b} {c} {d} h e m k l = (
 -- one word of the sum more: the four words of the label under the key's bits 64w + q
 pub rotation-more : (key x : List ℕ) (q j o ka kb kc kd : ℕ) {s r a b c d : ℕ} → o ≡ q + j → r < 2 ^ 64
     → s ≡ fromBits 64 (from j (rotationSum key x q)) → FourWords (around 32 x) o a b c d
-    → ((k : ℕ) → bitAt r k ≡ masked s a b c d ka kb kc kd k)
+    → ((k : ℕ) → bitAt r k ≡ masked s (four a b c d) (four ka kb kc kd) k)
     → ((k : ℕ) → k < 64 → (bitAt ka k ≡ bit key q) × (bitAt kb k ≡ bit key (64 + q)) × (bitAt kc k ≡ bit key (128 + q)) × (bitAt kd k ≡ bit key (192 + q)))
     → r ≡ fromBits 64 (from j (rotationSum key x (q + 1)))
 unfolding sum

@@ -23,10 +23,20 @@ setWord s i x = setHalf (setHalf s i x) (i + 4) (x / 2 ^ 32)
 unfoldable pub setFour : List ℕ → ℕ → ℕ → ℕ → ℕ → ℕ → List ℕ
 setFour s i a b c d = setWord (setWord (setWord (setWord s i a) (i + 8) b) (i + 16) c) (i + 24) d
 
--- bit k of s, to which four words are added under their masks, modulo 2
-abbrev pub masked : ℕ → ℕ → ℕ → ℕ → ℕ → ℕ → ℕ → ℕ → ℕ → ℕ → ℕ
-masked s a b c d ka kb kc kd k =
-    (bitAt s k + bitAt a k * bitAt ka k + bitAt b k * bitAt kb k + bitAt c k * bitAt kc k + bitAt d k * bitAt kd k) % 2
+-- four words
+pub record Four : Type 0 where
+  pub a : ℕ
+  pub b : ℕ
+  pub c : ℕ
+  pub d : ℕ
+
+abbrev pub four : ℕ → ℕ → ℕ → ℕ → Four
+four a b c d = record { a = a; b = b; c = c; d = d }
+
+-- bit k of s, to which four words x are added under their masks m, modulo 2
+abbrev pub masked : ℕ → Four → Four → ℕ → ℕ
+masked s x m k =
+    (bitAt s k + bitAt (x .a) k * bitAt (m .a) k + bitAt (x .b) k * bitAt (m .b) k + bitAt (x .c) k * bitAt (m .c) k + bitAt (x .d) k * bitAt (m .d) k) % 2
 
 -- bit j of a times bit s + j of b
 abbrev pub shiftTerm : List ℕ → List ℕ → ℕ → ℕ → ℕ
