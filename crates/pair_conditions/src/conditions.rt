@@ -5,7 +5,7 @@ ghost use mathlib.Core.Bool.{true};
 ghost use lib.ListN.{length};
 ghost use Rattle.numbers.specs.Number.{first};
 ghost use Rattle.pair_model.specs.Base.{base};
-ghost use Rattle.pair_model.specs.Frame.{parameters, dealKind, kindOf, frameBytes};
+ghost use Rattle.pair_model.specs.Frame.{parameters, kindOf, frameBytes};
 ghost use Rattle.pair_model.specs.Unit.{readsFile, expectedSide, lengthConditions, headerConditions, contentConditions, stepNumber};
 use linear::trits::trits_fit;
 use matrix::file::matrix_check;

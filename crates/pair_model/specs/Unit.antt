@@ -1,10 +1,9 @@
 -- The unit: how it begins, what a step returns, writes and leaves.
 use Prim.Native.Nat.{ℕ, _+_, _-_, _*_}
-use mathlib.Core.Path.{_≡_}
 use mathlib.Core.List.{List, [], _∷_, _++_}
 use mathlib.Core.Bool.{Bool, cond, not, _&&_, _||_}
 use lib.Dec.{ltb, eqb}
-use lib.ListN.{length, drop}
+use lib.ListN.{length}
 use Rattle.linear_model.specs.Bits.{zeros, addBits}
 use Rattle.linear_model.specs.Trits.{fitTrits, innerShare}
 use Rattle.numbers.specs.Number.{Condition, _when_, first, onlyIf}

@@ -9,7 +9,7 @@ ghost use Rattle.pair_model.specs.Base.{base};
 ghost use Rattle.pair_model.specs.Dealer.{dealFrame};
 ghost use Rattle.pair_model.specs.Frame.{parameters, maskKind, frameBytes, codeBytes, bodyOf};
 ghost use Rattle.pair_model.specs.Unit.{begin, leastOutput, stepNumber, step, takeMask};
-ghost use Rattle.pair_model.specs.WholeRun.{inputBytes, inputKey, inputLabel, inputTape, inputFile, runNumber, runCode};
+ghost use Rattle.pair_model.specs.WholeRun.{inputKey, inputLabel, inputTape, inputFile, runNumber, runCode};
 ghost use Rattle.pair_model.specs.Internal.Exchange.{Sends, RunFits};
 ghost use Rattle.pair_units.specs.Units.{stateOf};
 use numbers::table::DONE;

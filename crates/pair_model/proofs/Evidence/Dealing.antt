@@ -14,7 +14,7 @@ use Rattle.linear_model.specs.Trits.{fitTrits, packTrits}
 use Rattle.linear_model.proofs.Strings.{bytes-slice, bytes-append}
 use Rattle.linear_model.proofs.Vectors.{length-packTrits, bytes-packTrits, fit-pack}
 use Rattle.numbers.specs.Number.{first}
-use Rattle.pair_model.specs.Scheme.{Scheme, layoutBytes, field, fileNumber}
+use Rattle.pair_model.specs.Scheme.{Scheme, field, fileNumber}
 use Rattle.pair_model.specs.Tape.{tapeBytes, r0, Accepted}
 use Rattle.source_model.specs.Pair.{pair}
 use Rattle.pair_model.specs.Sampler.{Drawn, found, draw, copiedBytes, wantedTrits, drawn, sampled, sampleConditions, sampleNumber}

@@ -19,7 +19,6 @@ use Rattle.numbers.specs.Number.{_when_, first}
 use Rattle.matrix_model.specs.Block.{check, checkHolds, blockNumber}
 use Rattle.matrix_model.specs.File.{matrixB}
 use Rattle.matrix_model.proofs.Examples.{example-11, example-12}
-use Rattle.pair_model.specs.Scheme.{layoutBytes}
 use Rattle.source_model.specs.Pair.{pair}
 use Rattle.pair_model.specs.Sampler.{Drawn, found, draw, drawn, sampleConditions, sampleNumber, used}
 use Rattle.pair_model.specs.Base.{base}

@@ -12,7 +12,7 @@ use Rattle.linear_model.specs.Products.{circulantProduct}
 use Rattle.linear_model.proofs.Strings.{bytes-zeros}
 use Rattle.linear_model.proofs.Linearity.{circulant-bilinear}
 use Rattle.numbers.specs.Number.{first}
-use Rattle.pair_model.specs.Scheme.{Scheme, Linear, Side, side0, side1, fileNumber, field, layoutBytes}
+use Rattle.pair_model.specs.Scheme.{Scheme, Linear, Side, side0, side1, fileNumber, field}
 use Rattle.pair_model.specs.Tape.{r0, Accepted}
 use Rattle.pair_model.specs.Run.{Inputs, WellFormed}
 

@@ -6,7 +6,7 @@ use Prim.Native.Nat.{ℕ, _*_, _/_, min}
 use native.Mathlib.Omega.{arith}
 use borrow.Author.Tests.{eq-eqb, ne-eqb}
 use lib.Dec.{eqb, eqb→eq, lit<}
-use lib.ListN.{length, take, drop, length-drop}
+use lib.ListN.{length, drop, length-drop}
 use lib.Seq.{length-take-le}
 use Rattle.linear_model.specs.Trits.{fitTrits}
 use Rattle.numbers.specs.Number.{_when_, first, onlyIf}

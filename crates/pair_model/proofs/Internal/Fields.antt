@@ -1,12 +1,12 @@
 -- Fields by their place; those of a tape at the sizes of document 01.
 use mathlib.Core.Path.{_≡_, refl, sym, ap, _∙_}
-use mathlib.Core.List.{List, [], _∷_, _++_, append-nil}
+use mathlib.Core.List.{List, [], _∷_}
 use Prim.Native.Nat.{ℕ, zero, suc, _+_, _<_}
 use native.Mathlib.Nat.{not-suc-le-zero, le-of-suc-le-suc}
 use lib.Dec.{lit<}
 use lib.ListN.{length, getD, take, drop}
 use lib.Seq.{drop-drop}
-use Rattle.pair_model.specs.Scheme.{side0, side1, layoutBytes, field, concat}
+use Rattle.pair_model.specs.Scheme.{side0, side1, layoutBytes, field}
 use Rattle.pair_model.specs.Base.{base}
 use Rattle.pair_model.specs.Tape.{tapeLayout, K̃, x̃, w̃, z0, r0}
 

@@ -12,7 +12,7 @@ use lib.Seq.{drop-drop, take-take, take-nil, length-take-le}
 use Rattle.linear_model.specs.Trits.{fitTrits}
 use Rattle.numbers.specs.Number.{first}
 use Rattle.matrix_model.specs.File.{badCheck, badLayout, badTrit, zeroRow, faults, checkNumber}
-use Rattle.numbers.proofs.Numbers.{NoneHolds, none-holds, is-equal, is-at-least, is-true, denied, or-left, or-right}
+use Rattle.numbers.proofs.Numbers.{NoneHolds, none-holds, is-equal, is-at-least, or-left, or-right}
 use Rattle.pair_model.specs.Scheme.{side0, side1}
 use Rattle.pair_model.specs.Base.{base}
 use Rattle.pair_model.specs.Tape.{r0}

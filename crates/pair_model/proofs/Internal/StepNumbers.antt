@@ -1,16 +1,16 @@
 -- The number of a step by its parts, and what holds of a frame that is accepted.
 use mathlib.Core.Path.{_≡_, refl, sym, ap, _∙_}
-use mathlib.Core.List.{List, [], _∷_, _++_}
+use mathlib.Core.List.{List, _++_}
 use mathlib.Core.Bool.{Bool, true, false, cond, not, _&&_, _||_}
 use Prim.Native.Nat.{ℕ, zero, suc, _≤_}
 use lib.Dec.{ltb, eqb, lit<}
 use native.Mathlib.Nat.{suc-ne-zero}
 use lib.ListN.{length}
-use Rattle.numbers.specs.Number.{Condition, _when_, first, onlyIf}
-use Rattle.numbers.proofs.Numbers.{Positive, NoneHolds, none-holds, first-before, first-after, first-end, is-equal, is-at-least, or-left, or-right}
+use Rattle.numbers.specs.Number.{Condition, first}
+use Rattle.numbers.proofs.Numbers.{Positive, NoneHolds, none-holds, first-before, first-after, is-equal, is-at-least, or-left, or-right}
 use Rattle.pair_model.specs.Scheme.{Scheme}
 use Rattle.pair_model.specs.Frame.{Parameters, dealKind, maskKind, headerBytes, kindOf, frameBytes}
-use Rattle.pair_model.specs.Unit.{readsFile, leastOutput, unfitDeal, lengthConditions, headerConditions, contentConditions, stepConditions, stepNumber}
+use Rattle.pair_model.specs.Unit.{readsFile, leastOutput, lengthConditions, headerConditions, contentConditions, stepConditions, stepNumber}
 
 module _ (S : Scheme) (t : Parameters) (stage : ℕ) (f file : List ℕ) (n : ℕ) where
   abbrev lengths : List Condition

@@ -1,5 +1,5 @@
 -- `pair_conditions::conditions::content_number` meets its contract: by what is read, and then by the kind.
-use mathlib.Core.Path.{_≡_, sym, ap, _∙_}
+use mathlib.Core.Path.{sym, ap, _∙_}
 use native.Mathlib.Omega.{arith}
 use borrow.Author.Needs.{needs}
 use Rattle.pair_model.specs.Base.{base}

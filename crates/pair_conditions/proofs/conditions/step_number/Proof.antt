@@ -1,5 +1,5 @@
 -- `pair_conditions::conditions::step_number` meets its contract: the first part that has a number decides.
-use mathlib.Core.Path.{_≡_, sym, _∙_}
+use mathlib.Core.Path.{sym, _∙_}
 use borrow.Author.Needs.{needs}
 use Rattle.pair_model.specs.Base.{base}
 use Rattle.pair_model.specs.Frame.{parameters}

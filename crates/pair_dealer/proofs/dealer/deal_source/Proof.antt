@@ -1,5 +1,5 @@
 -- `pair_dealer::dealer::deal_source` meets its contract: the sampler's number, and the deal of its tape.
-use mathlib.Core.Path.{refl, sym, ap, _∙_}
+use mathlib.Core.Path.{sym, ap, _∙_}
 use mathlib.Core.List.{List, []}
 use Prim.Native.Nat.{ℕ}
 use borrow.Author.Needs.{needs}

@@ -1,12 +1,9 @@
 -- `pair_frames::fields::read_deal` meets its contract: each array is a field of the deal.
-use mathlib.Core.Path.{_≡_, refl, _∙_}
-use mathlib.Core.List.{List}
-use Prim.Native.Nat.{ℕ, _+_}
+use mathlib.Core.Path.{refl, _∙_}
+use Prim.Native.Nat.{_+_}
 use native.Mathlib.Omega.{arith}
-use native.Mathlib.Nat.{add-zero}
 use borrow.Author.Needs.{needs}
 use lib.Dec.{lit<}
-use lib.ListN.{length, take, drop}
 use Rattle.linear_model.specs.Bits.{zeros}
 use Rattle.linear_model.proofs.Copies.{copy-part}
 use Rattle.pair_model.specs.Base.{base}
