@@ -8,16 +8,8 @@ use lib.Dec.{T, eqb}
 use lib.ListN.{length, getD, take}
 use Rattle.linear_model.specs.Bits.{Bytes}
 use Rattle.pair_model.specs.Scheme.{Scheme, Side, side0, side1, sideByte, other, fileNumber}
-use Rattle.pair_model.specs.Unit.{State, Stepped, begin, step, readsFile, leastOutput}
+use Rattle.pair_model.specs.Unit.{State, Beginning, Stepped, begin, step, readsFile, leastOutput}
 use Rattle.pair_model.specs.Dealer.{dealFrame}
-
--- what runs are made of: a scheme, with its dealer and beginning, and the step of its units
-pub record Protocol : Type 0 where
-  pub scheme : Scheme
-  pub step : State → List ℕ → List ℕ → ℕ → Stepped
-
-abbrev pub protocol : Scheme → Protocol
-protocol S = record { scheme = S; step = step S }
 
 -- a key half and a label half for each side, a session and a matrix file
 pub record Inputs : Type 0 where
@@ -25,6 +17,25 @@ pub record Inputs : Type 0 where
   pub label : Side → List ℕ
   pub session : ℕ
   pub file : List ℕ
+
+-- what runs are made of: a scheme, the dealer's frame for each side, the beginning of each side's unit, and the step of the units
+pub record Protocol : Type 0 where
+  pub scheme : Scheme
+  -- of a session, a file and a tape
+  pub deal : ℕ → List ℕ → List ℕ → Side → List ℕ
+  -- what the protocol's dealer and beginning must not see is within reach here, so that one that shows it can be named
+  pub beginning : Inputs → Side → Beginning
+  pub step : State → List ℕ → List ℕ → ℕ → Stepped
+
+-- the protocol of document 01 over a scheme: a unit is begun with its own halves alone
+abbrev pub protocol : Scheme → Protocol
+protocol S =
+    record {
+      scheme = S;
+      deal = dealFrame S;
+      beginning = λ a i. begin S (sideByte i) (a .session) (a .key i) (a .label i);
+      step = step S;
+    }
 
 pub record WellFormed (S : Scheme) (a : Inputs) : Type 0 where
   pub key : (i : Side) → Bytes (S .keyBytes) (a .key i)
@@ -78,7 +89,7 @@ sentCount (e ∷ es) i = countIfSent (e .delivery) (e .side) (sentCount es) i
 module _ (P : Protocol) where
   -- the units as an accepted beginning returned them
   abbrev pub begunUnit : Inputs → Side → State
-  begunUnit a i = begin (P .scheme) (sideByte i) (a .session) (a .key i) (a .label i) .next
+  begunUnit a i = P .beginning a i .next
 
   abbrev pub start : Run → Configuration
   start run = record { unit = begunUnit (run .inputs); sent = λ i. [] }
@@ -86,7 +97,7 @@ module _ (P : Protocol) where
   -- what a unit waits for, in turn: the dealer's frame for it, the other unit's open frame, its mask frame, once written
   abbrev pub framesFor : Run → Configuration → Side → List (List ℕ)
   framesFor run c i =
-      dealFrame (P .scheme) (run .inputs .session) (run .inputs .file) (run .tape) i ∷ take 2 (c .sent (other i))
+      P .deal (run .inputs .session) (run .inputs .file) (run .tape) i ∷ take 2 (c .sent (other i))
 
   -- the frame handed in; a unit at stage s waits for frame s − 1 of these
   abbrev pub frameOf : Run → Configuration → Side → Delivery → List ℕ

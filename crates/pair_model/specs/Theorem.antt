@@ -6,11 +6,11 @@ use mathlib.Core.List.{List, [], _∷_}
 use mathlib.Core.Bool.{cond}
 use lib.Dec.{T, eqb}
 use lib.ListN.{getD}
-use Rattle.pair_model.specs.Scheme.{Scheme, Side, side0, side1, sideByte, other, total}
+use Rattle.pair_model.specs.Scheme.{Scheme, Side, side0, side1, other, total}
 use Rattle.pair_model.specs.Tape.{Accepted}
 use Rattle.pair_model.specs.Frame.{codeBytes}
 use Rattle.pair_model.specs.Evaluator.{code, evaluateNumber}
-use Rattle.pair_model.specs.Unit.{State, begin, leastOutput, readsFile, idleStage, doneStage}
+use Rattle.pair_model.specs.Unit.{State, leastOutput, readsFile, idleStage, doneStage}
 use Rattle.pair_model.specs.Join.{joinNumber, joined}
 use Rattle.pair_model.specs.Run.{Protocol, Inputs, WellFormed, Run, runOf, Configuration, Delivery, asSent, stray, Entry, entry, Lent, SharedEntry, start, frameOf, stepOf, next, final, sentCount, DeliveredAsSent, ListOf, Comparable, SameNumbers, firstOf, secondOf}
 use Rattle.pair_model.specs.View.{view}
@@ -90,8 +90,9 @@ module _ (P : Protocol) where
     pub file : T (readsFile S (frameOf P run (final P run (start P run) es) (e .side) asSent)) → e .file ≡ run .inputs .file
     pub output : leastOutput S ≤ e .outputLength
 
-  pub record Correctness (run : Run) : Type 0 where
-    pub begins : (i : Side) → begin S (sideByte i) (run .inputs .session) (run .inputs .key i) (run .inputs .label i) .result ≡ 0
+  -- what holds of a run, over every list of it
+  pub record CorrectRun (run : Run) : Type 0 where
+    pub begins : (i : Side) → P .beginning (run .inputs) i .result ≡ 0
     pub accepted : (es : List Entry) → ListOf P run (start P run) es → AllAccepted run (start P run) es
     pub stages : (es : List Entry) → ListOf P run (start P run) es → (i : Side)
         → final P run (start P run) es .unit i .stage ≡ 1 + sentCount es i
@@ -104,6 +105,9 @@ module _ (P : Protocol) where
     pub joins : (es : List Entry) → ListOf P run (start P run) es → let c = final P run (start P run) es in Done c
         → (joinNumber S (shareFrame c side0) (shareFrame c side1) (codeBytes S) ≡ 0)
         × (joined S (shareFrame c side0) (shareFrame c side1) ≡ ownCode run)
+
+  abbrev pub Correctness : Type 0
+  Correctness = (run : Run) → WellFormed S (run .inputs) → Accepted S (run .tape) → CorrectRun run
 
   -- ---- any calls whatever, from any state
 
@@ -128,6 +132,6 @@ module _ (P : Protocol) where
   -- ---- the whole
 
   pub record Demand3 : Type 0 where
-    pub correctness : (run : Run) → WellFormed S (run .inputs) → Accepted S (run .tape) → Correctness run
+    pub correctness : Correctness
     pub privacy : Privacy
     pub threeFrames : ThreeFrames

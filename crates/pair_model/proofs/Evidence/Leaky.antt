@@ -14,7 +14,7 @@ use Rattle.pair_model.specs.Scheme.{Scheme, Linear, Side, side0, side1, 
 use Rattle.pair_model.specs.Tape.{Accepted, K̃, x̃, dealLayout}
 use Rattle.pair_model.specs.Frame.{dealKind, openKind, maskKind, frame, header, bodyOf, openLayout}
 use Rattle.pair_model.specs.Unit.{State, K̂, x̂, withDeal, withMask, Stepped, refused, idle, addIfSide0, leastOutput, stepNumber, takeDeal, takeOpen, takeMask, advance, step}
-use Rattle.pair_model.specs.Run.{Protocol, Inputs, WellFormed, Run, runOf, Configuration, asSent, Entry, entry, SharedEntry, same, update, start, frameOf, stepOf, next, DeliveredAsSent, firstOf, secondOf}
+use Rattle.pair_model.specs.Run.{Protocol, protocol, Inputs, WellFormed, Run, runOf, Configuration, asSent, Entry, entry, SharedEntry, same, update, start, frameOf, stepOf, next, DeliveredAsSent, firstOf, secondOf}
 use Rattle.pair_model.specs.View.{Event, View, events, view}
 use Rattle.pair_model.specs.Theorem.{SameForFixed, Hides, Privacy}
 use Rattle.pair_model.proofs.Theorem.Stages.{parametersAt, incoming, unitAt, accepts-deal}
@@ -57,13 +57,17 @@ module _ (S : Scheme) where
       let ŵi = maskWithoutZ file (u .parameters .side) (K̂ S u body) (x̂ S u body) (u .secrets .keyMask) (u .secrets .labelMask) in
       record { result = 0; written = frame maskKind (u .parameters) ŵi; next = withMask S u ŵi }
 
+  -- the protocol with another step
+  abbrev pub withStep : (State → List ℕ → List ℕ → ℕ → Stepped) → Protocol
+  withStep other = record { scheme = S; deal = protocol S .deal; beginning = protocol S .beginning; step = other }
+
   -- the key half sent bare
   abbrev pub bareKey : Protocol
-  bareKey = record { scheme = S; step = stepBy takeDealBare (takeOpen S) }
+  bareKey = withStep (stepBy takeDealBare (takeOpen S))
 
   -- mask frames without z
   abbrev pub withoutZ : Protocol
-  withoutZ = record { scheme = S; step = stepBy (takeDeal S) takeOpenWithoutZ }
+  withoutZ = withStep (stepBy (takeDeal S) takeOpenWithoutZ)
 
 -- ---- entries by what their steps give
 

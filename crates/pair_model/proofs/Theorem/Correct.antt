@@ -16,7 +16,7 @@ use Rattle.pair_model.specs.Evaluator.{evaluateConditions, evaluateNumbe
 use Rattle.pair_model.specs.Unit.{Beginning, doneStage, leastOutput}
 use Rattle.pair_model.specs.Join.{joinNumber, joined}
 use Rattle.pair_model.specs.Run.{Protocol, protocol, Inputs, WellFormed, Run, runOf, Configuration, Delivery, asSent, stray, Entry, entry, update, countIfSent, sentCount, start, framesFor, stepOf, next, final, Valid, ListOf, DeliveredAsSent}
-use Rattle.pair_model.specs.Theorem.{AcceptedIfSent, AllAccepted, Done, shareFrame, inOrder, ownCode, Available, Correctness}
+use Rattle.pair_model.specs.Theorem.{AcceptedIfSent, AllAccepted, Done, shareFrame, inOrder, ownCode, Available, CorrectRun}
 use Rattle.numbers.proofs.Numbers.{at-least, equal}
 use Rattle.pair_model.proofs.Theorem.StepLaws.{fit-length, fit-faults}
 use Rattle.pair_model.proofs.Theorem.Stages.{unitAt, outgoing}
@@ -200,7 +200,7 @@ module _ (S : Scheme) (L : Linear S) (a : Inputs) (tape : List ℕ) (well : Well
       ∙ fit-faults S (a .file) (well .file)
 
   -- all that a run gives
-  pub correct : Correctness P R
+  pub correct : CorrectRun P R
   correct =
       record {
         begins = λ i. ap (λ (b : Beginning). b .result) (begins-as S a well i);
