@@ -1,15 +1,20 @@
 -- Examples 11 and 12 of the paper, over the definitions, and the sizes that it states.
-use mathlib.Core.Path.{_≡_, refl, ap₂}
+use mathlib.Core.Path.{_≡_, refl, sym, ap, ap₂, _∙_}
 use mathlib.Core.List.{List, [], _∷_}
-use mathlib.Core.Bool.{true}
-use Prim.Native.Nat.{ℕ, zero, suc, _%_}
+use mathlib.Core.Bool.{Bool, true, false, not, false≢true}
+use Prim.Native.Nat.{ℕ, zero, suc, _+_, _*_, _%_, _<_}
 use native.Mathlib.Omega.{arith}
 use Rattle.linear_model.specs.Tables.{every}
 use Rattle.linear_model.specs.Bits.{zeros}
-use Rattle.linear_model.proofs.Strings.{getD-zeros}
-use Rattle.numbers.specs.Number.{first}
-use Rattle.matrix_model.specs.Block.{rowsIn, laidOut, firstSum, secondSum, check, checkHolds, blockNumber}
-use Rattle.matrix_model.specs.File.{matrixB, blockCount, fileBytes, rowsBytes, rowPlace}
+use Rattle.linear_model.proofs.Strings.{getD-zeros, length-zeros}
+use Rattle.numbers.proofs.Numbers.{equal, first-pass, first-holds}
+use lib.Dec.{lit<}
+use lib.ListN.{length}
+use lib.Seq.{take-all}
+use Rattle.matrix_model.specs.Block.{rowsIn, laidOut, firstSum, secondSum, check, checkHolds}
+use Rattle.matrix_model.specs.File.{matrixB, blockCount, fileBytes, rowsBytes, rowPlace, block, checkedBlock, laidOutBlock, badCheck, badLayout, faults, checkNumber}
+use Rattle.matrix_model.proofs.Tests.{every-true, every-holds}
+use Rattle.matrix_model.proofs.Parts.{same-part}
 
 -- 6,144 bytes in 12 blocks, 5,184 of them rows; 7 rows to a block, in block 11, 4
 pub sizes : (blockCount matrixB ≡ 12) × (fileBytes ≡ 6144) × (rowsBytes ≡ 5184)
@@ -41,7 +46,7 @@ pub example-11 : check (1 ∷ zeros 509) ≡ 1 ∷ 0 ∷ []
 unfolding check one
 example-11 = ap₂ (λ (x y : ℕ). x ∷ y ∷ []) (first-one 509) (second-one 510)
 
--- ---- 12: a block of zeros: its check holds, 9
+-- ---- 12: a block of zeros: its check holds; a file of such blocks gets 9
 
 first-zeros : (n i : ℕ) → firstSum (zeros n) i ≡ 0
 unfolding firstSum
@@ -57,6 +62,34 @@ zeros-checked : checkHolds (zeros 512) ≡ true
 unfolding checkHolds check
 zeros-checked = rw (first-zeros 512 510, second-zeros 512 510)
 
-pub example-12 : (b : ℕ) → (checkHolds (zeros 512) ≡ true) × (blockNumber matrixB b (zeros 512) ≡ 9)
-unfolding blockNumber first laidOut every
-example-12 b = (zeros-checked, rw zeros-checked)
+-- each block of a file of zeros is one
+zero-block : (b : ℕ) → b < 12 → block (zeros 6144) b ≡ zeros 512
+zero-block b l =
+    same-part 512 (512 * b) 0 (zeros 6144) (zeros 512) (omega (arith, length-zeros 6144)) (omega (arith, length-zeros 512))
+    (λ k q. getD-zeros 6144 (512 * b + k) ∙ sym (getD-zeros 512 (0 + k)))
+    ∙ take-all 512 (zeros 512) (omega (arith, length-zeros 512))
+
+file-checked : badCheck (zeros 6144) ≡ false
+unfolding badCheck
+file-checked = ap not (every-true 12 (checkedBlock (zeros 6144)) (λ b l. ap checkHolds (zero-block b l) ∙ zeros-checked))
+
+zeros-laid-out : laidOut matrixB 0 (zeros 512) ≡ false
+unfolding laidOut every
+zeros-laid-out = refl
+
+file-laid-out : badLayout (zeros 6144) ≡ true
+unfolding badLayout
+file-laid-out = ap not (go (every 12 (laidOutBlock matrixB (zeros 6144))) refl)
+  where
+    go : (b : Bool) → every 12 (laidOutBlock matrixB (zeros 6144)) ≡ b → b ≡ false
+    go false e = refl
+    go true e =
+        absurd (false≢true (sym zeros-laid-out ∙ sym (ap (laidOut matrixB 0) (zero-block 0 (lit< tt)))
+        ∙ every-holds 12 (laidOutBlock matrixB (zeros 6144)) e 0 (lit< tt)))
+
+pub example-12 : (checkHolds (zeros 512) ≡ true) × (checkNumber (zeros fileBytes) ≡ 9)
+unfolding checkNumber faults
+example-12 = (
+  zeros-checked,
+  first-pass 1 _ _ (ap not (equal (length (zeros 6144)) 6144 (length-zeros 6144))) ∙ first-pass 8 _ _ file-checked ∙ first-holds 9 _ _ file-laid-out,
+)

@@ -7,4 +7,5 @@ pub mod WrittenBlocks
 pub mod RoundTrip
 pub mod Product
 pub mod Examples
+pub mod Sample
 pub mod Internal

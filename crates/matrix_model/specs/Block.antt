@@ -1,12 +1,11 @@
 -- A block of a matrix file: 512 bytes, with a head of four, the rows, zeros, and a check of two sums.
 use Prim.Native.Nat.{ℕ, zero, suc, _+_, _-_, _*_, _%_, min}
 use mathlib.Core.List.{List, [], _∷_, _++_}
-use mathlib.Core.Bool.{Bool, not, _&&_}
+use mathlib.Core.Bool.{Bool, _&&_}
 use lib.Dec.{eqb}
 use lib.ListN.{getD, take, drop}
 use Rattle.linear_model.specs.Tables.{every}
 use Rattle.linear_model.specs.Bits.{zeros}
-use Rattle.numbers.specs.Number.{_when_, first}
 
 -- what one sort of file has: the letter in byte 0 of its blocks, the set in byte 3, the bytes of a row, the rows of a full block, the rows in all
 pub record Layout : Type 0 where
@@ -84,7 +83,3 @@ frontOf layout rows b =
 -- block b of the file of these rows
 unfoldable pub blockOf : Layout → List ℕ → ℕ → List ℕ
 blockOf layout rows b = frontOf layout rows b ++ check (frontOf layout rows b)
-
--- the number of block b by itself
-unfoldable pub blockNumber : Layout → ℕ → List ℕ → ℕ
-blockNumber layout b block = first ((8 when not (checkHolds block)) ∷ (9 when not (laidOut layout b block)) ∷ [])

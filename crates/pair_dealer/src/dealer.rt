@@ -9,7 +9,9 @@ ghost use Rattle.pair_model.specs.Base.{base};
 ghost use Rattle.pair_model.specs.Tape.{tapeBytes, z, r};
 ghost use Rattle.pair_model.specs.Frame.{dealKind, frameBytes};
 ghost use Rattle.pair_model.specs.Sampler.{sampled, used};
-ghost use Rattle.pair_model.specs.Dealer.{dealFrame, dealt, dealtBytes, dealNumber, dealSourceNumber};
+ghost use Rattle.pair_model.specs.Dealer.{dealFrame, dealt, dealtBytes, dealNumber, dealSourceNumber, TakesAccepted};
+ghost use Rattle.pair_model.specs.Run.{protocol};
+ghost use Rattle.pair_model.specs.Theorem.{Privacy};
 use linear::trits::subtract_trits;
 use linear::trits::trits_fit;
 use numbers::table::DONE;
@@ -126,10 +128,13 @@ fn write_deal(session: u32, tape: &[u8], out: &mut [u8])
     write_second(session, tape, &mut out[DEAL_FRAME_BYTES..]);
 }
 
-// Deals a tape.
+// Deals a tape: the accepted ones and no other. Its frames stand in the views that `Privacy` speaks of, one pairing of accepted tapes
+// for all lists.
 pub fn deal(session: u32, tape: &[u8], out: &mut [u8]) -> u32
     ensures result { λ n. ⌜ n ≡ dealNumber base (now (tape .entry)) (length (now (out .entry))) ⌝ }
     ensures output { λ n. ⌜ now (out .exit) ≡ output n (dealt base session [] (now (tape .entry))) (now (out .entry)) ⌝ }
+    ensures accepted { λ _. ⌜ TakesAccepted base ⌝ }
+    ensures privacy { λ _. ⌜ Privacy (protocol base) ⌝ }
 {
     let number = deal_number(tape, out.len());
     if number != DONE {
@@ -160,6 +165,7 @@ pub fn deal_source(session: u32, source: &[u8], out: &mut [u8]) -> Dealt
     ensures result { λ d. ⌜ d .result ≡ dealSourceNumber base (now (source .entry)) (length (now (out .entry))) ⌝ }
     ensures count { λ d. ⌜ d .used ≡ reported (d .result) (used base (now (source .entry))) ⌝ }
     ensures output { λ d. ⌜ now (out .exit) ≡ output (d .result) (dealt base session [] (sampled base (now (source .entry)))) (now (out .entry)) ⌝ }
+    ensures privacy { λ _. ⌜ Privacy (protocol base) ⌝ }
 {
     if out.len() < DEALT_BYTES {
         return refused(WRONG_LENGTH);

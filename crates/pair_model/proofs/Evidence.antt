@@ -2,8 +2,13 @@
 pub mod OtherShare
 pub mod Dealing
 pub mod Small
-pub mod Instance
+pub mod Strays
 pub mod Leaky
 pub mod LeakyMask
+pub mod LeakyDealer
+pub mod Wrong
+pub mod WrongMask
 pub mod BytesE4
 pub mod Examples
+pub mod Sample
+pub mod Whole

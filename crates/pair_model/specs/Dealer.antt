@@ -1,12 +1,14 @@
 -- The dealer: both deal frames, of a tape or of source bytes.
-use Prim.Native.Nat.{ℕ, _*_}
+use Prim.Native.Nat.{ℕ, _*_, _<_}
+use mathlib.Core.Path.{_≡_}
+use mathlib.Core.Logic.{_↔_}
 use mathlib.Core.List.{List, [], _∷_, _++_}
 use mathlib.Core.Bool.{not}
 use lib.Dec.{ltb, eqb}
-use lib.ListN.{length}
+use lib.ListN.{length, getD}
 use Rattle.numbers.specs.Number.{Condition, _when_, first}
 use Rattle.pair_model.specs.Scheme.{Scheme, Side, side0, side1, sideByte}
-use Rattle.pair_model.specs.Tape.{tapeBytes, unfitTape, deal}
+use Rattle.pair_model.specs.Tape.{tapeBytes, Accepted, unfitTape, deal}
 use Rattle.pair_model.specs.Frame.{dealKind, parameters, frame, frameBytes}
 use Rattle.pair_model.specs.Sampler.{drawn, copiedBytes, wantedTrits}
 
@@ -31,6 +33,10 @@ module _ (S : Scheme) where
 
   abbrev pub dealNumber : List ℕ → ℕ → ℕ
   dealNumber tape outputLength = first (dealConditions tape outputLength)
+
+  -- it takes exactly the accepted tapes, where the output slice is long enough
+  abbrev pub TakesAccepted : Type 0
+  TakesAccepted = (tape : List ℕ) → ((i : ℕ) → getD tape i 0 < 256) → (dealNumber tape dealtBytes ≡ 0) ↔ Accepted S tape
 
   -- over source bytes: the tape is what the sampler makes of them, and its trits are fit
   unfoldable pub dealSourceConditions : List ℕ → ℕ → List Condition

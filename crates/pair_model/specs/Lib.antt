@@ -13,4 +13,8 @@ pub mod Theorem
 pub mod Header
 pub mod StateSlice
 pub mod WholeRun
+pub mod Examples
+pub mod Sample
+pub mod Leaky
+pub mod Evidence
 pub mod Internal

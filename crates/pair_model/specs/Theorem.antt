@@ -90,6 +90,10 @@ module _ (P : Protocol) where
     pub file : T (readsFile S (frameOf P run (final P run (start P run) es) (e .side) asSent)) → e .file ≡ run .inputs .file
     pub output : leastOutput S ≤ e .outputLength
 
+  -- the beginnings of a run are accepted
+  abbrev pub Begins : Type 0
+  Begins = (a : Inputs) → WellFormed S a → (i : Side) → P .beginning a i .result ≡ 0
+
   -- what holds of a run, over every list of it
   pub record CorrectRun (run : Run) : Type 0 where
     pub begins : (i : Side) → P .beginning (run .inputs) i .result ≡ 0

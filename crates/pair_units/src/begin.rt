@@ -3,6 +3,8 @@ ghost use mathlib.Core.Path.{_≡_};
 ghost use Rattle.pair_model.specs.Base.{base};
 ghost use Rattle.pair_model.specs.Frame.{parameters};
 ghost use Rattle.pair_model.specs.Unit.{state, halves, nothing, begin, beginNumber};
+ghost use Rattle.pair_model.specs.Run.{protocol};
+ghost use Rattle.pair_model.specs.Theorem.{Begins, Privacy};
 ghost use Rattle.pair_units.specs.Units.{unitOf};
 use crate::state::IDLE;
 use crate::state::UnitState;
@@ -65,10 +67,13 @@ fn begin_number(side: u32, key: &[u8], label: &[u8]) -> u32
     if 1 < side { NO_SIDE } else { DONE }
 }
 
-// A unit of this side and session with these halves, or the idle state.
+// A unit of this side and session with these halves, or the idle state. Beginnings of runs are accepted, and the state that is given
+// stands in the view that `Privacy` speaks of.
 pub fn begin(side: u32, session: u32, key: &[u8], label: &[u8]) -> Begun
     ensures result { λ b. ⌜ b .result ≡ begin base side session (now (key .entry)) (now (label .entry)) .result ⌝ }
     ensures next { λ b. ⌜ b .next ≡ unitOf (begin base side session (now (key .entry)) (now (label .entry)) .next) ⌝ }
+    ensures begins { λ _. ⌜ Begins (protocol base) ⌝ }
+    ensures privacy { λ _. ⌜ Privacy (protocol base) ⌝ }
 {
     let number = begin_number(side, key, label);
     if number != DONE {

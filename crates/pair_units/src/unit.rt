@@ -5,7 +5,8 @@ ghost use Rattle.numbers.specs.Number.{atFront};
 ghost use Rattle.pair_model.specs.Base.{base};
 ghost use Rattle.pair_model.specs.Unit.{step};
 ghost use Rattle.pair_model.specs.Run.{protocol};
-ghost use Rattle.pair_model.specs.Theorem.{Demand3};
+ghost use Rattle.pair_model.specs.Theorem.{Correctness, Privacy, ThreeFrames};
+ghost use Rattle.pair_model.specs.Evidence.{Evidence};
 ghost use Rattle.pair_units.specs.Units.{stateOf, unitOf};
 use crate::state::UnitState;
 use crate::steps::advance;
@@ -20,8 +21,8 @@ pub struct Stepped {
 }
 
 impl UnitState {
-    // One frame: the number, how much was written to `out`, and the next state. The last clause is the theorem over all lists of
-    // steps, so that it cannot be dropped unseen.
+    // One frame: the number, how much was written to `out`, and the next state. The last four clauses are the theorem over all lists
+    // of steps and what shows that it says something, so that no part can be dropped unseen.
     pub fn step(self, f: &[u8], file: &[u8], out: &mut [u8]) -> Stepped
         ensures result { λ r. ⌜ r .result ≡ step base (stateOf self) (now (f .entry)) (now (file .entry)) (length (now (out .entry))) .result ⌝ }
         ensures count { λ r. ⌜
@@ -31,7 +32,10 @@ impl UnitState {
         ensures output { λ _. ⌜
             now (out .exit) ≡ atFront (step base (stateOf self) (now (f .entry)) (now (file .entry)) (length (now (out .entry))) .written) (now (out .entry))
             ⌝ }
-        ensures theorem { λ _. ⌜ Demand3 (protocol base) ⌝ }
+        ensures correctness { λ _. ⌜ Correctness (protocol base) ⌝ }
+        ensures privacy { λ _. ⌜ Privacy (protocol base) ⌝ }
+        ensures three_frames { λ _. ⌜ ThreeFrames (protocol base) ⌝ }
+        ensures evidence { λ _. ⌜ Evidence ⌝ }
     {
         let number = step_number(self.side, self.session, self.stage, f, file, out.len());
         if number != DONE {

@@ -19,55 +19,13 @@ use Rattle.pair_model.specs.View.{Event, View, events, view}
 use Rattle.pair_model.specs.Theorem.{SameForFixed, Hides, Privacy}
 use Rattle.pair_model.proofs.Theorem.Stages.{parametersAt, incoming, unitAt, accepts-deal}
 use Rattle.pair_model.proofs.Theorem.Configurations.{configurationAt, start-at}
-use Rattle.pair_model.proofs.Evidence.Small.{small, small-linear, smallInputs, small-well, zero-tape}
+use Rattle.pair_model.specs.Leaky.{small, stepBy, takeDealBare, bareKey}
+use Rattle.pair_model.proofs.Evidence.Small.{zero-one, small-linear, smallInputs, small-well, zero-tape}
 
--- ---- the two leaky steps
-
-module _ (S : Scheme) where
-  -- a step with other ways to take a deal and an open frame
-  unfoldable pub stepBy : (State → List ℕ → Stepped) → (State → List ℕ → List ℕ → Stepped) → State → List ℕ → List ℕ → ℕ → Stepped
-  stepBy onDeal onOpen u f file outputLength =
-      let number = stepNumber S (u .parameters) (u .stage) f file outputLength in
-      cond (eqb number 0)
-      (cond (eqb (u .stage) dealKind) (onDeal u (bodyOf f)) (cond (eqb (u .stage) openKind) (onOpen u (bodyOf f) file) (takeMask S u (bodyOf f) file)))
-      (refused number u)
-
-  -- with the unit's own ways it is the unit's step
-  pub stepBy-own : stepBy (takeDeal S) (takeOpen S) ≡ step S
-  unfolding stepBy step advance
-  stepBy-own = refl
-
-  -- takes a deal, and writes its key half bare
-  unfoldable pub takeDealBare : State → List ℕ → Stepped
-  takeDealBare u body =
-      record {
-        result = 0;
-        written = frame openKind (u .parameters) (concat (u .secrets .key ∷ addBits (S .keyBytes) (u .secrets .label) (field (dealLayout S) 1 body) ∷ []));
-        next = withDeal S u body;
-      }
-
-  -- ŵi without zi
-  unfoldable pub maskWithoutZ : List ℕ → ℕ → (K̂ x̂ K̃ x̃ : List ℕ) → List ℕ
-  maskWithoutZ file side K̂ x̂ K̃ x̃ =
-      addIfSide0 S side (addBits (S .innerBytes) (S .product file K̂ x̃) (S .product file K̃ x̂)) (S .product file K̂ x̂)
-
-  -- takes the other's open frame, and writes a mask frame without z
-  unfoldable pub takeOpenWithoutZ : State → List ℕ → List ℕ → Stepped
-  takeOpenWithoutZ u body file =
-      let ŵi = maskWithoutZ file (u .parameters .side) (K̂ S u body) (x̂ S u body) (u .secrets .keyMask) (u .secrets .labelMask) in
-      record { result = 0; written = frame maskKind (u .parameters) ŵi; next = withMask S u ŵi }
-
-  -- the protocol with another step
-  abbrev pub withStep : (State → List ℕ → List ℕ → ℕ → Stepped) → Protocol
-  withStep other = record { scheme = S; deal = protocol S .deal; beginning = protocol S .beginning; step = other }
-
-  -- the key half sent bare
-  abbrev pub bareKey : Protocol
-  bareKey = withStep (stepBy takeDealBare (takeOpen S))
-
-  -- mask frames without z
-  abbrev pub withoutZ : Protocol
-  withoutZ = withStep (stepBy (takeDeal S) takeOpenWithoutZ)
+-- with the unit's own ways a step is the unit's step
+pub step-by-own : (S : Scheme) → stepBy S (takeDeal S) (takeOpen S) ≡ step S
+unfolding stepBy step advance
+step-by-own S = refl
 
 -- ---- entries by what their steps give
 
@@ -200,7 +158,4 @@ pub bare-key : ¬ Privacy (bareKey small)
 bare-key =
     bare-key-leaks small small-linear (smallInputs 0 0 1 0) (smallInputs 0 1 1 0)
     (small-well 0 0 1 0 (lit< tt) (lit< tt) (lit< tt) (lit< tt)) (small-well 0 1 1 0 (lit< tt) (lit< tt) (lit< tt) (lit< tt))
-    (record { key = refl; label = refl; session = refl; file = refl }) (λ e. zero-one (ap (λ (s : List ℕ). getD s 0 0) e)) (zeros 8) zero-tape
-  where
-    zero-one : ¬ (_≡_ {A = ℕ} 0 1)
-    zero-one e = omega arith
+    (record { key = refl; label = refl; session = refl; file = refl }) (zero-one [] []) (zeros 8) zero-tape

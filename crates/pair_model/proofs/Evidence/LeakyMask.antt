@@ -22,8 +22,9 @@ use Rattle.pair_model.proofs.Theorem.TapeParts.{whole-parts}
 use Rattle.pair_model.proofs.Theorem.MaskLaws.{openKey, openLabel}
 use Rattle.pair_model.proofs.Theorem.Stages.{parametersAt, openBody, incoming, outgoing, unitAt, accepts-open, open-field}
 use Rattle.pair_model.proofs.Theorem.Configurations.{configurationAt, Ready, next-sent, step-sent, start-at}
-use Rattle.pair_model.proofs.Evidence.Small.{small, small-linear, smallInputs, small-well, zero-tape}
-use Rattle.pair_model.proofs.Evidence.Leaky.{stepBy, maskWithoutZ, takeOpenWithoutZ, withoutZ, stepped, next-by, sent, eventAt}
+use Rattle.pair_model.proofs.Evidence.Small.{zero-one, small-linear, smallInputs, small-well, zero-tape}
+use Rattle.pair_model.specs.Leaky.{small, stepBy, maskWithoutZ, takeOpenWithoutZ, withoutZ}
+use Rattle.pair_model.proofs.Evidence.Leaky.{stepped, next-by, sent, eventAt}
 
 -- what side i opens: field 0 its key half, field 1 its label half, under their masks
 abbrev opened : Scheme → Inputs → List ℕ → Side → ℕ → List ℕ
@@ -267,10 +268,7 @@ w K̂ x̂ K̃ x̃ = maskWithoutZ small (a .file) 1 (K̂ ∷ []) (x̂ ∷ []) (K�
 -- the two masks would be 0 and 1
 different : ¬ (w 0 1 0 0 ≡ w 0 1 1 0)
 unfolding maskWithoutZ addBits pack tabulate fromBits bit bitProduct sum
-different e = zero-one (ap (λ (s : List ℕ). getD s 0 0) e)
-  where
-    zero-one : ¬ (_≡_ {A = ℕ} 0 1)
-    zero-one e = omega arith
+different e = zero-one [] [] e
 
 impossible : (u : List ℕ) → Accepted small u → Equal u → ⊥
 unfolding K̃ x̃ field addBits pack tabulate fromBits bit

@@ -1,12 +1,14 @@
 -- Demand 3, for every scheme with a product that is linear on both sides, and for the one of document 01.
-use mathlib.Core.Path.{refl}
+use mathlib.Core.Path.{refl, ap}
 use Rattle.linear_model.proofs.Linearity.{circulant-bilinear}
 use Rattle.pair_model.specs.Scheme.{Scheme, Linear}
 use Rattle.pair_model.specs.Base.{base}
 use Rattle.pair_model.specs.Run.{protocol}
-use Rattle.pair_model.specs.Theorem.{Privacy, Demand3}
+use Rattle.pair_model.specs.Unit.{Beginning}
+use Rattle.pair_model.specs.Theorem.{Privacy, Begins, Demand3}
 use Rattle.pair_model.proofs.Theorem.Pairing.{pairing, pairedTape, paired-accepted, kept}
 use Rattle.pair_model.proofs.Theorem.MaskLaws.{in-common}
+use Rattle.pair_model.proofs.Theorem.Configurations.{begins-as}
 use Rattle.pair_model.proofs.Theorem.Correct.{correct}
 use Rattle.pair_model.proofs.Theorem.Private.{same-view}
 use Rattle.pair_model.proofs.Theorem.Counting.{three-frames}
@@ -32,6 +34,10 @@ demand3 S L =
       privacy = private S L;
       threeFrames = three-frames S;
     }
+
+-- the beginnings by themselves
+pub begins : (S : Scheme) → Begins (protocol S)
+begins S a well i = ap (λ (b : Beginning). b .result) (begins-as S a well i)
 
 -- the circulant product is linear on both sides, and reads no file
 pub base-linear : Linear base

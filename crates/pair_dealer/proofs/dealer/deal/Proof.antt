@@ -3,13 +3,16 @@ use mathlib.Core.Path.{sym, _∙_}
 use borrow.Author.Needs.{needs}
 use borrow.Author.Tests.{ne-eqb}
 use Rattle.numbers.specs.Number.{output}
+use Rattle.pair_model.specs.Base.{base}
+use Rattle.pair_model.proofs.Theorem.Main.{base-demand3}
+use Rattle.pair_model.proofs.Evidence.Dealing.{deal-accepted}
 use Rattle.pair_model.proofs.Internal.Deals.{deal-fits}
 use Rattle.pair_dealer.proofs.dealer.deal.Statement.{statement}
 use Rattle.pair_dealer.proofs.dealer.deal.Tie as tie
 
 returns : tie.Need-returns
 unfolding output
-returns c = (c .before .deal-number .ensures, simp (ne-eqb _ _ (c .if1 .taken)))
+returns c = (c .before .deal-number .ensures, (simp (ne-eqb _ _ (c .if1 .taken)), (deal-accepted base, base-demand3 .privacy)))
 
 write-deal-requires : tie.Need-write-deal-requires
 write-deal-requires c κs =
@@ -22,7 +25,7 @@ returns-2 : tie.Need-returns-2
 returns-2 c =
     let w = c .before .before in
     let i = w .before .before in
-    (sym (i .if1 .left) ∙ i .before .deal-number .ensures, w .write-deal .ensures)
+    (sym (i .if1 .left) ∙ i .before .deal-number .ensures, (w .write-deal .ensures, (deal-accepted base, base-demand3 .privacy)))
 
 pub deal-spec : {M : Type 1} → statement M
 deal-spec =

@@ -9,6 +9,7 @@ use Rattle.numbers.specs.Number.{output, reported}
 use Rattle.pair_model.specs.Base.{base}
 use Rattle.pair_model.specs.Sampler.{sampled, used}
 use Rattle.pair_model.specs.Dealer.{dealt}
+use Rattle.pair_model.proofs.Theorem.Main.{base-demand3}
 use Rattle.pair_model.proofs.Internal.Deals.{source-room, source-number, sampled-whole}
 use Rattle.pair_dealer.proofs.dealer.deal_source.Statement.{statement}
 use Rattle.pair_dealer.proofs.dealer.deal_source.Tie as tie
@@ -17,7 +18,7 @@ returns : tie.Need-returns
 unfolding output reported
 returns c =
     let r = c .refused .ensures in
-    (r .0 ∙ source-room _ _ (c .before .if1 .taken), (rw (r .0, r .1), rw (r .0)))
+    (r .0 ∙ source-room _ _ (c .before .if1 .taken), (rw (r .0, r .1), (rw (r .0), base-demand3 .privacy)))
 
 returns-2 : tie.Need-returns-2
 unfolding output reported
@@ -25,7 +26,7 @@ returns-2 c =
     let s = c .before .before .before .before in
     let r = c .refused2 .ensures in
     let n = ne-eqb _ _ (λ e. c .before .if2 .taken (sym (r .0) ∙ e)) in
-    (r .0 ∙ s .sample .ensures .0 ∙ source-number _ _ (s .before .before .if1 .left), (simp (n, r .1), simp n))
+    (r .0 ∙ s .sample .ensures .0 ∙ source-number _ _ (s .before .before .if1 .left), (simp (n, r .1), (simp n, base-demand3 .privacy)))
 
 returns-3 : tie.Need-returns-3
 returns-3 c =
@@ -39,7 +40,7 @@ returns-3 c =
       sym e ∙ n .0 ∙ source-number _ _ (s .before .before .if1 .left),
       (
         n .1 .0 ∙ ap (λ (k : ℕ). reported k (used base (a .source .now))) e,
-        w .write-deal .ensures ∙ ap (λ (x : List ℕ). output 0 (dealt base (a .session) [] x) (a .out .now)) t,
+        (w .write-deal .ensures ∙ ap (λ (x : List ℕ). output 0 (dealt base (a .session) [] x) (a .out .now)) t, base-demand3 .privacy),
       ),
     )
 

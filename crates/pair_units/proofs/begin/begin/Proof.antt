@@ -8,6 +8,7 @@ use Rattle.pair_model.specs.Base.{base}
 use Rattle.pair_model.specs.Frame.{parameters}
 use Rattle.pair_model.specs.Unit.{begun}
 use Rattle.pair_model.proofs.Internal.Begins.{begin-fits, begin-accepted, begin-refused, begin-result}
+use Rattle.pair_model.proofs.Theorem.Main.{begins, base-demand3}
 use Rattle.pair_units.specs.Units.{unitOf}
 use Rattle.pair_units.proofs.begin.begin.Statement.{statement}
 use Rattle.pair_units.proofs.begin.begin.Tie as tie
@@ -17,7 +18,10 @@ returns c =
     let n = c .before .before .begin-number in
     let a = c .before .before .before .before .before .args in (
       n .ensures ∙ sym (begin-result base (a .side) (a .session) (a .key .now) (a .label .now)),
-      c .cleared .ensures ∙ ap unitOf (sym (begin-refused base (a .side) (a .session) (a .key .now) (a .label .now) (λ e. c .before .if1 .taken (n .ensures ∙ e)))),
+      (
+        c .cleared .ensures ∙ ap unitOf (sym (begin-refused base (a .side) (a .session) (a .key .now) (a .label .now) (λ e. c .before .if1 .taken (n .ensures ∙ e)))),
+        (begins base, base-demand3 .privacy),
+      ),
     )
 
 array-32-requires : tie.Need-array-32-requires
@@ -42,8 +46,11 @@ returns-2 c =
     let l : c .before .array-322 .result ≡ a .label .now = c .before .array-322 .ensures ∙ take-all 32 (a .label .now) (omega (arith, f .label-length)) in
     let s : a .side % 256 ≡ a .side = omega (arith, f .side-small) in (
       sym (begin-result base (a .side) (a .session) (a .key .now) (a .label .now) ∙ z),
-      c .with-halves .ensures ∙ (λ i. unitOf (begun base (parameters (s i) (a .session)) (k i) (l i)))
-          ∙ ap unitOf (sym (begin-accepted base (a .side) (a .session) (a .key .now) (a .label .now) z)),
+      (
+        c .with-halves .ensures ∙ (λ i. unitOf (begun base (parameters (s i) (a .session)) (k i) (l i)))
+            ∙ ap unitOf (sym (begin-accepted base (a .side) (a .session) (a .key .now) (a .label .now) z)),
+        (begins base, base-demand3 .privacy),
+      ),
     )
 
 pub begin-spec : {M : Type 1} → statement M

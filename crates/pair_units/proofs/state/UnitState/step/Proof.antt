@@ -1,4 +1,4 @@
--- `UnitState::step` meets its contract: its number decides. The theorem is Main's.
+-- `UnitState::step` meets its contract: its number decides. Theorem and evidence are the model's.
 use mathlib.Core.Path.{sym, ap, _∙_}
 use borrow.Author.Needs.{needs}
 use lib.ListN.{length}
@@ -6,7 +6,7 @@ use Rattle.numbers.specs.Number.{atFront}
 use Rattle.pair_model.specs.Unit.{Stepped}
 use Rattle.pair_model.specs.Base.{base}
 use Rattle.pair_model.proofs.Theorem.StepLaws.{step-accepted, step-result, step-refused}
-use Rattle.pair_model.proofs.Theorem.Main.{base-demand3}
+use Rattle.pair_model.proofs.Evidence.Whole.{theorem-and-evidence}
 use Rattle.pair_units.specs.Units.{stateOf, unitOf}
 use Rattle.pair_units.proofs.state.UnitState.step.Statement.{statement}
 use Rattle.pair_units.proofs.state.UnitState.step.Tie as tie
@@ -25,7 +25,7 @@ returns c =
         ap (λ (s : Stepped). length (s .written)) e,
         (
           ap (λ (s : Stepped). unitOf (s .next)) e,
-          (ap (λ (s : Stepped). atFront (s .written) (a .out .now)) e, base-demand3),
+          (ap (λ (s : Stepped). atFront (s .written) (a .out .now)) e, theorem-and-evidence),
         ),
       ),
     )
@@ -43,7 +43,7 @@ returns-2 c =
         t .0 ∙ ap (λ (s : Stepped). length (s .written)) e,
         (
           t .1 .0 ∙ ap (λ (s : Stepped). unitOf (s .next)) e,
-          (t .1 .1 ∙ ap (λ (s : Stepped). atFront (s .written) (a .out .now)) e, base-demand3),
+          (t .1 .1 ∙ ap (λ (s : Stepped). atFront (s .written) (a .out .now)) e, theorem-and-evidence),
         ),
       ),
     )

@@ -1,0 +1,39 @@
+-- All of the evidence holds.
+use Rattle.pair_model.specs.Run.{protocol, start}
+use Rattle.pair_model.specs.Base.{base}
+use Rattle.pair_model.specs.Theorem.{Correctness, Privacy, ThreeFrames}
+use Rattle.pair_model.specs.Evidence.{Evidence}
+use Rattle.pair_model.proofs.Theorem.Main.{private, base-linear, base-demand3}
+use Rattle.pair_model.proofs.Evidence.Examples.{twelve-examples}
+use Rattle.pair_model.proofs.Evidence.Sample.{sample-compared}
+use Rattle.pair_model.proofs.Evidence.Strays.{self-comparable}
+use Rattle.pair_model.proofs.Evidence.Dealing.{deal-accepted, sampled-accepted}
+use Rattle.pair_model.proofs.Evidence.OtherShare.{other-share-frame}
+use Rattle.pair_model.proofs.Evidence.Wrong.{bare-key-fails, without-z-fails, inner-mask-fails, other-key-fails, refuses-all-fails, second-deal-fails}
+use Rattle.pair_model.proofs.Evidence.WrongMask.{empty-mask-fails, half-for-mask-fails, copied-mask-fails}
+
+pub evidence : Evidence
+evidence =
+    record {
+      examples = twelve-examples;
+      sample = sample-compared;
+      selfComparable = λ fixed run es. self-comparable (protocol base) fixed run (start (protocol base) run) es;
+      dealer = deal-accepted base;
+      sampler = sampled-accepted base;
+      share =
+          λ fixed a b well₁ well₂ g.
+          record { hides = private base base-linear fixed a b well₁ well₂ g; share = other-share-frame base base-linear fixed a b well₁ well₂ g };
+      bareKey = bare-key-fails;
+      withoutZ = without-z-fails;
+      innerMaskDealt = inner-mask-fails;
+      otherKeyShown = other-key-fails;
+      emptyMask = empty-mask-fails;
+      halfForMask = half-for-mask-fails;
+      copiedMask = copied-mask-fails;
+      refusesAll = refuses-all-fails;
+      secondDeal = second-deal-fails;
+    }
+
+-- the clauses of a step's contract that speak of all runs
+pub theorem-and-evidence : Correctness (protocol base) × (Privacy (protocol base) × (ThreeFrames (protocol base) × Evidence))
+theorem-and-evidence = (base-demand3 .correctness, (base-demand3 .privacy, (base-demand3 .threeFrames, evidence)))

@@ -1,0 +1,98 @@
+-- Protocols with one wrong part do not satisfy the whole demand.
+use Prim.Native.Nat.{ℕ}
+use mathlib.Core.Path.{_≡_, refl, sym, ap, _∙_, subst}
+use mathlib.Core.List.{List, [], _∷_}
+use native.Mathlib.Omega.{arith}
+use native.Mathlib.Nat.{le-refl}
+use lib.Dec.{lit<, lit≤}
+use Rattle.linear_model.specs.Bits.{Bytes, zeros, fromBits, bit, pack, addBits}
+use Rattle.linear_model.specs.Tables.{tabulate, sum, every}
+use Rattle.linear_model.specs.Trits.{trit, fitTrits}
+use Rattle.linear_model.specs.Products.{bitProduct}
+use Rattle.numbers.specs.Number.{first, onlyIf}
+use Rattle.pair_model.specs.Scheme.{Scheme, Side, side0, side1, field, concat}
+use Rattle.pair_model.specs.Frame.{parameters, openKind, frame, header}
+use Rattle.pair_model.specs.Unit.{State, state, nothing, leastOutput, beginConditions, begin, readsFile, stepConditions, takeDeal, step}
+use Rattle.pair_model.specs.Run.{Inputs, WellFormed, Run, runOf, Lent, start, DeliveredAsSent}
+use Rattle.pair_model.specs.View.{View, events, view}
+use Rattle.pair_model.specs.Theorem.{SameForFixed, Demand3}
+use Rattle.pair_model.specs.Leaky.{small, bareKey, withoutZ, innerMaskDealt, otherKeyShown, refusesAll, dealAgain, secondDeal}
+use Rattle.pair_model.proofs.Theorem.Pairing.{innerOf}
+use Rattle.pair_model.proofs.Evidence.Small.{zero-one, small-linear, bytes-one, smallInputs, small-well, zero-tape}
+use Rattle.pair_model.proofs.Evidence.Leaky.{sent, bare-key}
+use Rattle.pair_model.proofs.Evidence.LeakyMask.{without-z}
+use Rattle.pair_model.proofs.Evidence.LeakyDealer.{inner-mask-leaks}
+
+-- two inputs of the small scheme: key halves 0 and 1 of side 1, and so inner vectors 0 and 1
+abbrev a : Inputs
+a = smallInputs 0 0 1 0
+
+abbrev b : Inputs
+b = smallInputs 0 1 1 0
+
+well₁ : WellFormed small a
+well₁ = small-well 0 0 1 0 (lit< tt) (lit< tt) (lit< tt) (lit< tt)
+
+well₂ : WellFormed small b
+well₂ = small-well 0 1 1 0 (lit< tt) (lit< tt) (lit< tt) (lit< tt)
+
+same-for : SameForFixed side0 a b
+same-for = record { key = refl; label = refl; session = refl; file = refl }
+
+-- ---- leaks
+
+pub bare-key-fails : ¬ Demand3 (bareKey small)
+bare-key-fails d = bare-key (d .privacy)
+
+pub without-z-fails : ¬ Demand3 (withoutZ small)
+without-z-fails d = without-z (d .privacy)
+
+inner₁ : innerOf small a ≡ 0 ∷ []
+unfolding addBits bitProduct pack tabulate fromBits bit sum
+inner₁ = refl
+
+inner₂ : innerOf small b ≡ 1 ∷ []
+unfolding addBits bitProduct pack tabulate fromBits bit sum
+inner₂ = refl
+
+pub inner-mask-fails : ¬ Demand3 (innerMaskDealt small)
+inner-mask-fails d =
+    inner-mask-leaks small small-linear a b well₁ well₂ same-for (subst (Bytes 1) (sym inner₁) (bytes-one 0 (lit< tt)))
+    (subst (Bytes 1) (sym inner₂) (bytes-one 1 (lit< tt))) (λ e. zero-one [] [] (sym inner₁ ∙ e ∙ inner₂)) (zeros 8) zero-tape (d .privacy)
+
+-- the state it is begun with shows the other's key half, before any step
+pub other-key-fails : ¬ Demand3 (otherKeyShown small)
+unfolding view events
+other-key-fails d =
+    let H = d .privacy side0 a b well₁ well₂ same-for in
+    zero-one [] [] (ap (λ (v : View). v .begun .secrets .keyMask) (H .sameView (zeros 8) zero-tape [] tt .views))
+
+-- ---- no frame is accepted
+
+-- the deal is there for the unit that was begun
+delivered : DeliveredAsSent (refusesAll small) (runOf a (zeros 8)) (start (refusesAll small) (runOf a (zeros 8))) (sent small (a .file) side0)
+unfolding begin beginConditions first
+delivered = record { waiting = lit≤ tt; written = lit≤ tt; file = λ t. refl; output = le-refl (leastOutput small) }
+
+pub refuses-all-fails : ¬ Demand3 (refusesAll small)
+refuses-all-fails d = thirteen (d .correctness (runOf a (zeros 8)) well₁ zero-tape .accepted (sent small (a .file) side0 ∷ []) (delivered, tt) .0)
+  where
+    thirteen : ¬ (_≡_ {A = ℕ} 13 0)
+    thirteen e = omega arith
+
+-- ---- a frame too many
+
+-- a unit that waits for an open frame
+abbrev waiting : State
+waiting = state (parameters 0 1) openKind (nothing small)
+
+-- a deal of zeros for it
+abbrev dealOfZeros : Lent
+dealOfZeros = record { frame = 1 ∷ 0 ∷ 1 ∷ 0 ∷ 0 ∷ 0 ∷ zeros 5; file = []; outputLength = 8 }
+
+pub second-deal-fails : ¬ Demand3 (secondDeal small)
+unfolding dealAgain step stepConditions readsFile onlyIf first fitTrits every trit bit field takeDeal
+second-deal-fails d = two-three (d .threeFrames .counts waiting (dealOfZeros ∷ []) (lit≤ tt))
+  where
+    two-three : ¬ (_≡_ {A = ℕ} 2 3)
+    two-three e = omega arith

@@ -1,0 +1,53 @@
+-- What shows that the statement is neither empty nor too weak.
+use Prim.Native.Nat.{ℕ, _<_}
+use mathlib.Core.Path.{_≡_}
+use mathlib.Core.List.{List, [], _∷_}
+use lib.ListN.{getD}
+use Rattle.pair_model.specs.Scheme.{Side, other}
+use Rattle.pair_model.specs.Tape.{Accepted}
+use Rattle.pair_model.specs.Base.{base}
+use Rattle.pair_model.specs.Sampler.{sampled, sampleNumber}
+use Rattle.pair_model.specs.Dealer.{TakesAccepted}
+use Rattle.pair_model.specs.Run.{Protocol, protocol, Inputs, WellFormed, Run, runOf, Entry, SharedEntry, same, start, final, ListOf, firstOf, secondOf, Comparable}
+use Rattle.pair_model.specs.Theorem.{SameForFixed, Hides, Done, shareFrame, ownCode, Demand3}
+use Rattle.pair_model.specs.Examples.{TwelveExamples}
+use Rattle.pair_model.specs.Sample.{SampleCompared}
+use Rattle.pair_model.specs.Leaky.{small, bareKey, withoutZ, innerMaskDealt, otherKeyShown, emptyMask, halfForMask, copiedMask, refusesAll, secondDeal}
+
+-- every entry shared
+abbrev pub shared : List Entry → List SharedEntry
+shared [] = []
+shared (e ∷ es) = same e ∷ shared es
+
+-- a pairing of tapes under which the other unit's share frame is the same too, wherever the codes are: who sees the code learns no more
+pub record HidesShare (P : Protocol) (fixed : Side) (a b : Inputs) : Type 0 where
+  pub hides : Hides P fixed a b
+  pub share : (tape : List ℕ) → Accepted (P .scheme) tape → (es : List SharedEntry)
+      → let run₁ = runOf a tape in let run₂ = runOf b (hides .pairing .forth tape) in
+      let c₁ = final P run₁ (start P run₁) (firstOf fixed es) in let c₂ = final P run₂ (start P run₂) (secondOf fixed es) in
+      Comparable P fixed run₁ run₂ (start P run₁) (start P run₂) es → Done P c₁ → Done P c₂ → ownCode P run₁ ≡ ownCode P run₂
+      → shareFrame P c₁ (other fixed) ≡ shareFrame P c₂ (other fixed)
+
+pub record Evidence : Type 0 where
+  -- the definitions say what document 01 says
+  pub examples : TwelveExamples
+  -- there are runs, and runs to compare them with
+  pub sample : SampleCompared
+  pub selfComparable : (fixed : Side) (run : Run) (es : List Entry) → let P = protocol base in
+      ListOf P run (start P run) es → Comparable P fixed run run (start P run) (start P run) (shared es)
+  -- the dealer takes exactly the accepted tapes, and the sampler makes such tapes
+  pub dealer : TakesAccepted base
+  pub sampler : (source : List ℕ) → ((i : ℕ) → getD source i 0 < 256) → (outputLength : ℕ)
+      → sampleNumber base source outputLength ≡ 0 → Accepted base (sampled base source)
+  -- the code tells no more than itself
+  pub share : (fixed : Side) (a b : Inputs) → WellFormed base a → WellFormed base b → SameForFixed fixed a b → HidesShare (protocol base) fixed a b
+  -- leaky and wrong protocols do not pass
+  pub bareKey : ¬ Demand3 (bareKey small)
+  pub withoutZ : ¬ Demand3 (withoutZ small)
+  pub innerMaskDealt : ¬ Demand3 (innerMaskDealt small)
+  pub otherKeyShown : ¬ Demand3 (otherKeyShown small)
+  pub emptyMask : ¬ Demand3 (emptyMask small)
+  pub halfForMask : ¬ Demand3 (halfForMask small)
+  pub copiedMask : ¬ Demand3 (copiedMask small)
+  pub refusesAll : ¬ Demand3 (refusesAll small)
+  pub secondDeal : ¬ Demand3 (secondDeal small)

@@ -1,0 +1,129 @@
+-- Protocols that must not pass: each is the protocol with one part exchanged.
+use Prim.Native.Nat.{ℕ}
+use mathlib.Core.List.{List, [], _∷_}
+use mathlib.Core.Bool.{cond, false, _&&_}
+use lib.Dec.{eqb}
+use Rattle.linear_model.specs.Bits.{addBits}
+use Rattle.linear_model.specs.Products.{circulantProduct}
+use Rattle.pair_model.specs.Scheme.{Scheme, Side, side0, side1, other, field, concat}
+use Rattle.pair_model.specs.Tape.{K̃, x̃, w̃, r0, dealLayout}
+use Rattle.pair_model.specs.Frame.{dealKind, openKind, maskKind, frame, kindOf, bodyOf, openLayout}
+use Rattle.pair_model.specs.Unit.{State, state, Beginning, Stepped, refused, K̂, x̂, withDeal, withMask, addIfSide0, stepNumber, takeDeal, takeOpen, takeMask, step}
+use Rattle.pair_model.specs.Dealer.{dealFrame}
+use Rattle.pair_model.specs.Run.{Protocol, protocol, Inputs}
+
+-- a small scheme, in which they are refuted: one byte of key, label and inner vector, one digit, a file of one row
+abbrev pub small : Scheme
+small =
+    record {
+      keyBytes = 1;
+      innerBytes = 1;
+      digits = 1;
+      product = λ file key label. circulantProduct 1 key label;
+      productReads = false;
+      fileBytes = 2;
+      faults = λ file. [];
+      rows = λ file. file;
+    }
+
+module _ (S : Scheme) where
+  -- the protocol with another step
+  abbrev pub withStep : (State → List ℕ → List ℕ → ℕ → Stepped) → Protocol
+  withStep step = record { scheme = S; deal = protocol S .deal; beginning = protocol S .beginning; step = step }
+
+  -- a step with other ways to take a deal and an open frame
+  unfoldable pub stepBy : (State → List ℕ → Stepped) → (State → List ℕ → List ℕ → Stepped) → State → List ℕ → List ℕ → ℕ → Stepped
+  stepBy onDeal onOpen u f file outputLength =
+      let number = stepNumber S (u .parameters) (u .stage) f file outputLength in
+      cond (eqb number 0)
+      (cond (eqb (u .stage) dealKind) (onDeal u (bodyOf f)) (cond (eqb (u .stage) openKind) (onOpen u (bodyOf f) file) (takeMask S u (bodyOf f) file)))
+      (refused number u)
+
+  -- ---- the key half sent bare
+
+  unfoldable pub takeDealBare : State → List ℕ → Stepped
+  takeDealBare u body =
+      record {
+        result = 0;
+        written = frame openKind (u .parameters) (concat (u .secrets .key ∷ addBits (S .keyBytes) (u .secrets .label) (field (dealLayout S) 1 body) ∷ []));
+        next = withDeal S u body;
+      }
+
+  abbrev pub bareKey : Protocol
+  bareKey = withStep (stepBy takeDealBare (takeOpen S))
+
+  -- ---- a mask frame without z
+
+  unfoldable pub maskWithoutZ : List ℕ → ℕ → (K̂ x̂ K̃ x̃ : List ℕ) → List ℕ
+  maskWithoutZ file side K̂ x̂ K̃ x̃ =
+      addIfSide0 S side (addBits (S .innerBytes) (S .product file K̂ x̃) (S .product file K̃ x̂)) (S .product file K̂ x̂)
+
+  unfoldable pub takeOpenWithoutZ : State → List ℕ → List ℕ → Stepped
+  takeOpenWithoutZ u body file =
+      let ŵi = maskWithoutZ file (u .parameters .side) (K̂ S u body) (x̂ S u body) (u .secrets .keyMask) (u .secrets .labelMask) in
+      record { result = 0; written = frame maskKind (u .parameters) ŵi; next = withMask S u ŵi }
+
+  abbrev pub withoutZ : Protocol
+  withoutZ = withStep (stepBy (takeDeal S) takeOpenWithoutZ)
+
+  -- ---- a dealer that puts w̃ in a deal: in the place of z0, so that the codes are right
+
+  unfoldable pub withInnerMask : List ℕ → List ℕ
+  withInnerMask tape =
+      concat (K̃ S tape side0 ∷ K̃ S tape side1 ∷ x̃ S tape side0 ∷ x̃ S tape side1 ∷ w̃ S tape ∷ w̃ S tape ∷ r0 S tape ∷ [])
+
+  abbrev pub innerMaskDealt : Protocol
+  innerMaskDealt =
+      record {
+        scheme = S;
+        deal = λ session file tape. dealFrame S session file (withInnerMask tape);
+        beginning = protocol S .beginning;
+        step = step S;
+      }
+
+  -- ---- a beginning whose state shows the other's key half, where the deal's K̃ will stand
+
+  abbrev pub withKeyMask : List ℕ → State → State
+  withKeyMask keyMask u =
+      let s = u .secrets in
+      state (u .parameters) (u .stage)
+      (record { key = s .key; label = s .label; keyMask = keyMask; labelMask = s .labelMask; z = s .z; r = s .r; ownMask = s .ownMask })
+
+  abbrev pub otherKeyShown : Protocol
+  otherKeyShown =
+      record {
+        scheme = S;
+        deal = protocol S .deal;
+        beginning = λ a i. let b = protocol S .beginning a i in record { result = b .result; next = withKeyMask (a .key (other i)) (b .next) };
+        step = step S;
+      }
+
+  -- ---- mask frames with another body: none, the sender's key half, or a part of the frame that it took
+
+  abbrev pub takeOpenWriting : (State → List ℕ → List ℕ) → State → List ℕ → List ℕ → Stepped
+  takeOpenWriting other u body file =
+      record { result = 0; written = frame maskKind (u .parameters) (other u body); next = takeOpen S u body file .next }
+
+  abbrev pub emptyMask : Protocol
+  emptyMask = withStep (stepBy (takeDeal S) (takeOpenWriting (λ u body. [])))
+
+  abbrev pub halfForMask : Protocol
+  halfForMask = withStep (stepBy (takeDeal S) (takeOpenWriting (λ u body. u .secrets .key)))
+
+  abbrev pub copiedMask : Protocol
+  copiedMask = withStep (stepBy (takeDeal S) (takeOpenWriting (λ u body. field (openLayout S) 0 body)))
+
+  -- ---- a unit that refuses every frame
+
+  abbrev pub refusesAll : Protocol
+  refusesAll = withStep (λ u f file outputLength. refused 13 u)
+
+  -- ---- a unit that takes a deal in every stage
+
+  unfoldable pub dealAgain : State → List ℕ → List ℕ → ℕ → Stepped
+  dealAgain u f file outputLength =
+      let s = step S u f file outputLength in
+      cond (eqb (s .result) 7 && eqb (kindOf f) dealKind) (takeDeal S u (bodyOf f)) s
+
+  abbrev pub secondDeal : Protocol
+  secondDeal = withStep dealAgain
