@@ -13,4 +13,5 @@ pub mod Theorem
 pub mod Header
 pub mod StateSlice
 pub mod WholeRun
+pub mod Lowest
 pub mod Internal
