@@ -1,5 +1,6 @@
 -- The laws of the file; those that only the code needs are in `Internal`.
 pub mod Tests
+pub mod Lowest
 pub mod Parts
 pub mod Blocks
 pub mod Rows

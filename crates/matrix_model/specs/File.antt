@@ -112,16 +112,25 @@ unfoldable pub rowFaults : List ℕ → List Condition
 rowFaults rows = (10 when badTritRows rows) ∷ (12 when zeroRowRows rows) ∷ []
 
 -- the matrix check
+abbrev pub checkConditions : List ℕ → List Condition
+checkConditions file = (1 when not (eqb (length file) fileBytes)) ∷ faults file
+
 unfoldable pub checkNumber : List ℕ → ℕ
-checkNumber file = first ((1 when not (eqb (length file) fileBytes)) ∷ faults file)
+checkNumber file = first (checkConditions file)
 
 -- the reader, with an output slice of n bytes
+abbrev pub readConditions : List ℕ → ℕ → List Condition
+readConditions file n = (1 when not (eqb (length file) fileBytes)) ∷ (1 when ltb n rowsBytes) ∷ faults file
+
 unfoldable pub readNumber : List ℕ → ℕ → ℕ
-readNumber file n = first ((1 when not (eqb (length file) fileBytes)) ∷ (1 when ltb n rowsBytes) ∷ faults file)
+readNumber file n = first (readConditions file n)
 
 -- the writer, with an output slice of n bytes
+abbrev pub writeConditions : List ℕ → ℕ → List Condition
+writeConditions rows n = (1 when not (eqb (length rows) rowsBytes)) ∷ (1 when ltb n fileBytes) ∷ rowFaults rows
+
 unfoldable pub writeNumber : List ℕ → ℕ → ℕ
-writeNumber rows n = first ((1 when not (eqb (length rows) rowsBytes)) ∷ (1 when ltb n fileBytes) ∷ rowFaults rows)
+writeNumber rows n = first (writeConditions rows n)
 
 -- a file is fit where the check gives 0
 abbrev pub Fit : List ℕ → Type 0

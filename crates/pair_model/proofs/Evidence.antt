@@ -1,6 +1,7 @@
--- What shows that the statement is neither empty nor too weak: instances, leaky protocols and the examples.
+-- What shows that the statement is neither empty nor too weak: instances, leaky protocols and the examples; and that numbers are the lowest.
 pub mod OtherShare
 pub mod Dealing
+pub mod Lowest
 pub mod Small
 pub mod Strays
 pub mod Leaky

@@ -10,6 +10,7 @@ use Rattle.pair_model.specs.Sampler.{sampled, sampleNumber}
 use Rattle.pair_model.specs.Dealer.{TakesAccepted}
 use Rattle.pair_model.specs.Run.{Protocol, protocol, Inputs, WellFormed, Run, runOf, Entry, SharedEntry, same, start, final, ListOf, firstOf, secondOf, Comparable}
 use Rattle.pair_model.specs.Theorem.{SameForFixed, Hides, Done, shareFrame, ownCode, Demand3}
+use Rattle.pair_model.specs.Lowest.{LowestNumbers}
 use Rattle.pair_model.specs.Examples.{TwelveExamples}
 use Rattle.pair_model.specs.Sample.{SampleCompared}
 use Rattle.pair_model.specs.Leaky.{small, bareKey, withoutZ, innerMaskDealt, otherKeyShown, emptyMask, halfForMask, copiedMask, refusesAll, secondDeal}
@@ -31,6 +32,7 @@ pub record HidesShare (P : Protocol) (fixed : Side) (a b : Inputs) : Type 0 wher
 pub record Evidence : Type 0 where
   -- the definitions say what document 01 says
   pub examples : TwelveExamples
+  pub lowest : LowestNumbers
   -- there are runs, and runs to compare them with
   pub sample : SampleCompared
   pub selfComparable : (fixed : Side) (run : Run) (es : List Entry) → let P = protocol base in

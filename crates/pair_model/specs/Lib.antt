@@ -13,6 +13,7 @@ pub mod Theorem
 pub mod Header
 pub mod StateSlice
 pub mod WholeRun
+pub mod Lowest
 pub mod Examples
 pub mod Sample
 pub mod Leaky

@@ -5,10 +5,10 @@ use mathlib.Core.Bool.{Bool, cond, not}
 use lib.Dec.{eqb}
 use lib.ListN.{length}
 use Rattle.linear_model.specs.Bits.{Bytes}
-use Rattle.numbers.specs.Number.{_when_, first}
+use Rattle.numbers.specs.Number.{Condition, _when_, first}
 use Rattle.pair_model.specs.Scheme.{Scheme, layoutBytes, field, concat}
 use Rattle.pair_model.specs.Frame.{parameters, frame, headerBytes, kindOf, sideOf, sessionOf, bodyOf}
-use Rattle.pair_model.specs.Unit.{State, state, Stepped, beginConditions, begin, step}
+use Rattle.pair_model.specs.Unit.{State, state, Stepped, beginConditions, begin, stepConditions, step}
 
 -- a state laid out like a frame, with the stage for its kind and the secrets for its body
 unfoldable pub encodeState : State → List ℕ
@@ -48,8 +48,11 @@ module _ (S : Scheme) where
   abbrev pub badState : List ℕ → Bool
   badState s = not (eqb (length s) stateBytes)
 
+  abbrev pub pairBeginConditions : ℕ → List ℕ → List ℕ → List ℕ → List Condition
+  pairBeginConditions side key label s = 1 when badState s ∷ beginConditions S side key label
+
   unfoldable pub pairBeginNumber : ℕ → List ℕ → List ℕ → List ℕ → ℕ
-  pairBeginNumber side key label s = first (1 when badState s ∷ beginConditions S side key label)
+  pairBeginNumber side key label s = first (pairBeginConditions side key label s)
 
   -- a refused beginning writes the idle state
   unfoldable pub pairBeginState : ℕ → ℕ → List ℕ → List ℕ → List ℕ → List ℕ
@@ -59,8 +62,13 @@ module _ (S : Scheme) where
   abbrev pub sliceStep : List ℕ → List ℕ → List ℕ → ℕ → Stepped
   sliceStep s f file outputLength = step S (decodeState s) f file outputLength
 
+  -- the slice's own length, then the conditions of that step
+  abbrev pub pairStepConditions : List ℕ → List ℕ → List ℕ → ℕ → List Condition
+  pairStepConditions s f file outputLength =
+      let u = decodeState s in 1 when badState s ∷ stepConditions S (u .parameters) (u .stage) f file outputLength
+
   unfoldable pub pairStepNumber : List ℕ → List ℕ → List ℕ → ℕ → ℕ
-  pairStepNumber s f file outputLength = cond (badState s) 1 (sliceStep s f file outputLength .result)
+  pairStepNumber s f file outputLength = first (pairStepConditions s f file outputLength)
 
   -- a refused step leaves the slice as it was
   unfoldable pub pairStepState : List ℕ → List ℕ → List ℕ → ℕ → List ℕ

@@ -4,6 +4,7 @@ use Rattle.pair_model.specs.Base.{base}
 use Rattle.pair_model.specs.Theorem.{Correctness, Privacy, ThreeFrames}
 use Rattle.pair_model.specs.Evidence.{Evidence}
 use Rattle.pair_model.proofs.Theorem.Main.{private, base-linear, base-demand3}
+use Rattle.pair_model.proofs.Evidence.Lowest.{lowest-numbers}
 use Rattle.pair_model.proofs.Evidence.Examples.{twelve-examples}
 use Rattle.pair_model.proofs.Evidence.Sample.{sample-compared}
 use Rattle.pair_model.proofs.Evidence.Strays.{self-comparable}
@@ -16,6 +17,7 @@ pub evidence : Evidence
 evidence =
     record {
       examples = twelve-examples;
+      lowest = lowest-numbers;
       sample = sample-compared;
       selfComparable = λ fixed run es. self-comparable (protocol base) fixed run (start (protocol base) run) es;
       dealer = deal-accepted base;

@@ -42,7 +42,7 @@ module _ (S : Scheme) (s : List ℕ) (h : length s ≡ stateBytes S → ⊥) whe
   begin-short side session key label = (rw (ne-eqb (length s) (stateBytes S) h), rw (ne-eqb (length s) (stateBytes S) h))
 
   pub step-short : (f file : List ℕ) (n : ℕ) → (1 ≡ pairStepNumber S s f file n) × (s ≡ pairStepState S s f file n) × (pairStepWritten S s f file n ≡ [])
-  unfolding pairStepNumber pairStepState pairStepWritten
+  unfolding pairStepNumber pairStepState pairStepWritten first
   step-short f file n = (rw (ne-eqb (length s) (stateBytes S) h), rw (ne-eqb (length s) (stateBytes S) h), rw (ne-eqb (length s) (stateBytes S) h))
 
 -- ---- a slice of its length
@@ -56,8 +56,8 @@ module _ (S : Scheme) (s : List ℕ) (h : length s ≡ stateBytes S) where
 
   module _ (f file : List ℕ) (n : ℕ) where
     by-number : sliceStep S s f file n .result ≡ pairStepNumber S s f file n
-    unfolding pairStepNumber
-    by-number = rw (eq-eqb (length s) (stateBytes S) h)
+    unfolding pairStepNumber first
+    by-number = rw (eq-eqb (length s) (stateBytes S) h) (step-result S (decodeState S s) f file n)
 
     by-written : sliceStep S s f file n .written ≡ pairStepWritten S s f file n
     unfolding pairStepWritten

@@ -1,0 +1,69 @@
+-- Where the numbers of a list rise, the first whose condition holds is the lowest.
+use Prim.Native.Nat.{ℕ, zero, suc, _≤_}
+use mathlib.Core.Path.{_≡_, refl}
+use mathlib.Core.Logic.{inl, inr, ⊎-elim}
+use mathlib.Core.List.{List, [], _∷_, _++_}
+use mathlib.Core.Bool.{Bool, true, false}
+use native.Mathlib.Omega.{arith}
+use native.Mathlib.Nat.{le-refl, suc-ne-zero}
+use lib.Dec.{T}
+use Rattle.numbers.specs.Number.{Condition, _when_, first, onlyIf}
+use Rattle.numbers.specs.Lowest.{Holds, Lowest, RisingFrom, Rising}
+
+-- ---- lists that rise
+
+-- what rises from n on rises from a lower number on
+pub rising-from : (m n : ℕ) (cs : List Condition) → m ≤ n → RisingFrom n cs → RisingFrom m cs
+rising-from m n [] h r = tt
+rising-from m n (number when b ∷ cs) h r = (omega (arith, r .0), r .1)
+
+-- no conditions after others change nothing
+pub rising-end : (n : ℕ) (cs : List Condition) → RisingFrom n cs → RisingFrom n (cs ++ [])
+rising-end n [] r = tt
+rising-end n (number when b ∷ cs) r = (r .0, rising-end number cs (r .1))
+
+-- of two lists that are never both read, each of which rises
+pub rising-either : (n : ℕ) (a b : Bool) (k l : List Condition) → (T a → T b → ⊥) → RisingFrom n k → RisingFrom n l
+    → RisingFrom n (onlyIf a k ++ onlyIf b l)
+unfolding onlyIf
+rising-either n true true k l h r s = absurd (h tt tt)
+rising-either n true false k l h r s = rising-end n k r
+rising-either n false true k l h r s = s
+rising-either n false false k l h r s = tt
+
+-- ---- the lowest number
+
+-- what holds in a list that rises from n on has at least that number
+holds-from : (n m : ℕ) (cs : List Condition) → RisingFrom n cs → Holds m cs → n ≤ m
+holds-from n m [] r h = absurd h
+holds-from n m (number when b ∷ cs) r (inl h) = omega (arith, r .0, h .0)
+holds-from n m (number when b ∷ cs) r (inr h) = omega (arith, r .0, holds-from number m cs (r .1) h)
+
+-- the first of a list that rises is the lowest
+pub first-lowest : {cs : List Condition} → Rising cs → Lowest cs (first cs)
+unfolding first
+first-lowest {cs = []} r = record { holds = λ z. absurd (z refl); lowest = λ n h. absurd h }
+first-lowest {cs = number when true ∷ cs} r =
+    record {
+      holds = λ z. inl (refl, tt);
+      lowest = λ n h. ((λ z. omega (arith, r .0)), holds-from number n (number when true ∷ cs) (le-refl number, r .1) h);
+    }
+first-lowest {cs = number when false ∷ cs} r =
+    let l = first-lowest {cs = cs} (rising-from 1 number cs (r .0) (r .1)) in
+    record { holds = λ z. inr (l .holds z); lowest = λ n. ⊎-elim (λ h. absurd (h .1)) (l .lowest n) }
+
+-- a list has one lowest number
+pub lowest-unique : (cs : List Condition) (m n : ℕ) → Lowest cs m → Lowest cs n → m ≡ n
+lowest-unique cs zero zero l k = refl
+lowest-unique cs zero (suc n) l k = absurd (l .lowest (suc n) (k .holds (suc-ne-zero n)) .0 refl)
+lowest-unique cs (suc m) zero l k = absurd (k .lowest (suc m) (l .holds (suc-ne-zero m)) .0 refl)
+lowest-unique cs (suc m) (suc n) l k =
+    omega (arith, l .lowest (suc n) (k .holds (suc-ne-zero n)) .1, k .lowest (suc m) (l .holds (suc-ne-zero m)) .1)
+
+-- of a list that falls the first is not the lowest
+abbrev pub falling : List Condition
+falling = 9 when true ∷ 8 when true ∷ []
+
+pub falling-first : ¬ Lowest falling (first falling)
+unfolding first
+falling-first l = omega (arith, l .lowest 8 (inr (inl (refl, tt))) .1)

@@ -1,0 +1,37 @@
+-- The number of every call is the lowest whose condition holds, over all inputs that the call reads; n is the output slice's length.
+use Prim.Native.Nat.{ℕ}
+use mathlib.Core.List.{List}
+use Rattle.numbers.specs.Lowest.{Lowest}
+use Rattle.matrix_model.specs.File.{checkConditions, checkNumber, readConditions, readNumber, writeConditions, writeNumber}
+use Rattle.pair_model.specs.Base.{base}
+use Rattle.pair_model.specs.Sampler.{sampleConditions, sampleNumber}
+use Rattle.pair_model.specs.Evaluator.{evaluateConditions, evaluateNumber}
+use Rattle.pair_model.specs.Unit.{State, beginConditions, begin, stepConditions, step}
+use Rattle.pair_model.specs.Join.{joinConditions, joinNumber}
+use Rattle.pair_model.specs.Dealer.{dealConditions, dealNumber, dealSourceConditions, dealSourceNumber}
+use Rattle.pair_model.specs.StateSlice.{pairBeginConditions, pairBeginNumber, pairStepConditions, pairStepNumber}
+use Rattle.pair_model.specs.WholeRun.{runConditions, runNumber}
+
+pub record LowestNumbers : Type 0 where
+  -- the evaluator
+  pub evaluates : (key label file : List ℕ) (n : ℕ) → Lowest (evaluateConditions base key label file n) (evaluateNumber base key label file n)
+  -- the dealer, of a tape and of source bytes, and the sampler
+  pub deals : (tape : List ℕ) (n : ℕ) → Lowest (dealConditions base tape n) (dealNumber base tape n)
+  pub deals-source : (source : List ℕ) (n : ℕ) → Lowest (dealSourceConditions base source n) (dealSourceNumber base source n)
+  pub samples : (source : List ℕ) (n : ℕ) → Lowest (sampleConditions base source n) (sampleNumber base source n)
+  -- the unit: its beginning and its step, and both over a slice
+  pub begins : (side session : ℕ) (key label : List ℕ)
+      → Lowest (beginConditions base side key label) (begin base side session key label .result)
+  pub begins-slice : (side : ℕ) (key label s : List ℕ)
+      → Lowest (pairBeginConditions base side key label s) (pairBeginNumber base side key label s)
+  pub steps : (u : State) (f file : List ℕ) (n : ℕ)
+      → Lowest (stepConditions base (u .parameters) (u .stage) f file n) (step base u f file n .result)
+  pub steps-slice : (s f file : List ℕ) (n : ℕ) → Lowest (pairStepConditions base s f file n) (pairStepNumber base s f file n)
+  -- the counter's join
+  pub joins : (f g : List ℕ) (n : ℕ) → Lowest (joinConditions base f g n) (joinNumber base f g n)
+  -- the matrix file: writer, reader and check
+  pub writes : (rows : List ℕ) (n : ℕ) → Lowest (writeConditions rows n) (writeNumber rows n)
+  pub reads : (file : List ℕ) (n : ℕ) → Lowest (readConditions file n) (readNumber file n)
+  pub checks : (file : List ℕ) → Lowest (checkConditions file) (checkNumber file)
+  -- the whole run, one call that reads all its input
+  pub runs : (input : List ℕ) (n : ℕ) → Lowest (runConditions input n) (runNumber input n)
