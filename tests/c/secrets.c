@@ -248,7 +248,8 @@ static void try_whole_calls(void)
     expect_secret("pair_run", code, 10);
 }
 
-/* Sizes that no call has: these take the loops for any size, which use the table of digit products. */
+/* Sizes that no call has: these take the loops for any size, and the bytes after a plane's last whole word
+ * the table of digit products. */
 static void try_odd_sizes(void)
 {
     uint8_t strings[2][ODD_STRING], product[ODD_STRING], matrix[ODD_ROWS][ODD_VECTOR], v[ODD_VECTOR], digits[4];
@@ -261,8 +262,8 @@ static void try_odd_sizes(void)
     expect("circulant_product", PAIR_DONE, PAIR_DONE, 0);
     expect_secret("circulant_product", product, sizeof product);
     matrix_product(matrix[0], sizeof matrix, v, sizeof v, ODD_ROWS, digits, sizeof digits);
-    /* One look into the table for each eight bytes of a plane of a row. */
-    expect("matrix_product", PAIR_DONE, PAIR_DONE, ODD_ROWS * ((ODD_STRING + 7) / 8));
+    /* One look into the table for each digit of these bytes, in each row. */
+    expect("matrix_product", PAIR_DONE, PAIR_DONE, ODD_ROWS * 8 * (ODD_STRING % 8));
     expect_secret("matrix_product", digits, 1);
 }
 

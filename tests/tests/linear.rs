@@ -257,6 +257,34 @@ fn matrix_product() {
     report("linear: matrix_product", PRODUCTS);
 }
 
+/// Every pair of digits, also unfit ones, in every place of a row and a vector:
+/// planes of whole words, and planes with one to seven bytes more.
+#[test]
+fn digit_products() {
+    let name = "digit_products";
+    let mut random = Random::for_test(name);
+    let mut count = 0;
+    for m in (1..=17).chain(31..=33) {
+        for case in 0..16 * 8 * m {
+            let (place, digits) = (case / 16, [case % 4, case / 4 % 4]);
+            let [row, v] = digits.map(|digit| one_digit(m, place, digit));
+            let expected = trits::matrix_product(&row, &v, 1, m, 1);
+            compare_bytes(&mut random, name, [&row, &v], &[0xff; 2], &expected, |[row, v], out| {
+                library::matrix_product(row, v, 1, out)
+            });
+            count += 1;
+        }
+    }
+    report("linear: digit_products", count);
+}
+
+/// A vector of m bytes a plane with one digit, 3 if both bits are set, and zeros.
+fn one_digit(m: usize, place: usize, digit: usize) -> Vec<u8> {
+    let mut vector = vec![0; 2 * m];
+    set_place(&mut vector, place, [digit % 2 == 1, digit / 2 == 1]);
+    vector
+}
+
 /// A vector of any length, fit as far as whole trits go; its odd last byte, if
 /// any, is random.
 fn fit_vector(random: &mut Random, length: usize) -> Vec<u8> {

@@ -1,6 +1,7 @@
 -- The laws that proofs cite, here and in the crates above.
 pub mod Tables
 pub mod Sums
+pub mod Digits
 pub mod NumberBits
 pub mod Strings
 pub mod Vectors

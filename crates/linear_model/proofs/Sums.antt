@@ -76,6 +76,12 @@ mul-congr m zero a b p = ap (λ (x : ℕ). x % m) (omega arith)
 mul-congr m (suc e) a b p =
     ap (λ (x : ℕ). x % m) (suc-mul e a) ∙ add-congr m (e * a) a (e * b) b (mul-congr m e a b p) p ∙ ap (λ (x : ℕ). x % m) (sym (suc-mul e b))
 
+-- terms that agree modulo m have sums that do
+pub sum-congr : (m n : ℕ) (f g : ℕ → ℕ) → ((j : ℕ) → j < n → f j % m ≡ g j % m) → sum n f % m ≡ sum n g % m
+unfolding sum
+sum-congr m zero f g e = refl
+sum-congr m (suc n) f g e = add-congr m (sum n f) (f n) (sum n g) (g n) (sum-congr m n f g (λ j l. e j (le-step l))) (e n (omega arith))
+
 -- what adds term by term adds in the sum
 pub sum-add : (m n : ℕ) (f g h : ℕ → ℕ) → ((j : ℕ) → j < n → (f j + g j) % m ≡ h j % m) → (sum n f + sum n g) % m ≡ sum n h % m
 unfolding sum

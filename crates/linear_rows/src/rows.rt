@@ -1,12 +1,13 @@
-// Rows of trits times a vector, modulo 3, by words of 64 bits. No branch depends on a vector's bytes, and no index but that of `PRODUCTS`.
+// Rows of trits times a vector, modulo 3: by words of 64 bits, and digit by digit after a plane's last whole word. No branch depends on a
+// vector's bytes, and no index but that of `PRODUCTS`, the table for single digits.
 ghost use mathlib.Core.Path.{_≡_};
 ghost use mathlib.Core.List.{_++_};
 ghost use Prim.Native.Nat.{ℕ, _+_, _-_, _*_, _/_, _%_, _^_, _<_, _≤_, min};
 ghost use lib.ListN.{length, drop};
 ghost use Rattle.linear_model.specs.Tables.{sum, from, below};
-ghost use Rattle.linear_model.specs.Bits.{bitAt};
+ghost use Rattle.linear_model.specs.Digits.{digitProduct};
 ghost use Rattle.linear_model.specs.Products.{rowProduct, rowDigit, matrixProduct, tritTerm};
-ghost use Rattle.linear_model.specs.Internal.Planes.{tritOf, PlaneBits, planeTerm};
+ghost use Rattle.linear_model.specs.Internal.Planes.{tritOf, tritProduct, PlaneBits};
 use linear_words::bytes;
 use linear_words::lanes;
 use linear_words::lanes::Planes;
@@ -19,57 +20,83 @@ const PRODUCTS: [[u8; 3]; 3] = [[0, 0, 0], [0, 1, 2], [0, 2, 1]];
 
 fn product(a: usize, b: usize) -> u8
     requires { ⌜ (a < 3) × (b < 3) ⌝ }
-    ensures { λ r. ⌜ r ≡ a * b % 3 ⌝ }
+    ensures { λ r. ⌜ r ≡ digitProduct a b ⌝ }
 {
     PRODUCTS[a][b]
 }
 
-// The digits added up, modulo 3.
-fn counted(d: Trits) -> u8
-    ensures { λ r. ⌜ r ≡ (sum 64 (bitAt (d .low)) + 2 * sum 64 (bitAt (d .high))) % 3 ⌝ }
+// Digit `k` of bytes `x` and `u` of the two planes; both bits set count as 0.
+fn digit(x: u8, u: u8, k: usize) -> usize
+    requires { ⌜ k < 8 ⌝ }
+    ensures { λ r. ⌜ r ≡ tritOf x u k % 3 ⌝ }
 {
-    let ones = (u64::count_ones(d.low) % 3) as u8;
-    let twos = (u64::count_ones(d.high) % 3) as usize;
-    (ones + product(2, twos)) % 3
+    (((x >> k) % 2 + 2 * ((u >> k) % 2)) % 3) as usize
 }
 
-// What columns 8i to 8i + 63 of a row give with the trits of planes `low` and `high`, modulo 3.
-fn word_product(row: &[u8], m: usize, low: &[u8], high: &[u8], i: usize) -> u8
+// The digits of bytes `x`, `u` times those of bytes `y`, `w`, one by one, added up modulo 3.
+fn digits_product(x: u8, u: u8, y: u8, w: u8) -> u8
+    ensures { λ r. ⌜ r ≡ sum 8 (tritProduct x u y w) % 3 ⌝ }
+{
+    let mut acc: u8 = 0;
+    let mut k: usize = 0;
+    while k < 8 {
+        acc += product(digit(x, u, k), digit(y, w, k));
+        k += 1;
+    }
+    acc % 3
+}
+
+// What columns 8i to 8i + 7 of a row give with a vector of planes of `m` bytes, modulo 3.
+fn byte_product(row: &[u8], v: &[u8], m: usize, i: usize) -> u8
     requires { ⌜ m + i < 2 ^ 64 ⌝ }
-    ensures { λ r. ⌜ r ≡ sum 64 (from (8 * i) (planeTerm m (now (row .entry)) (now (low .entry)) (now (high .entry)))) % 3 ⌝ }
+    ensures { λ r. ⌜ r ≡ sum 8 (from (8 * i) (tritTerm m (now (row .entry)) (now (v .entry)))) % 3 ⌝ }
+{
+    digits_product(
+        bytes::byte_at(row, i),
+        bytes::byte_at(row, m + i),
+        bytes::byte_at(v, i),
+        bytes::byte_at(v, m + i),
+    )
+}
+
+// What columns 8i to 8i + 63 give.
+fn word_product(row: &[u8], v: &[u8], m: usize, i: usize) -> u8
+    requires { ⌜ m + i < 2 ^ 64 ⌝ }
+    ensures { λ r. ⌜ r ≡ sum 64 (from (8 * i) (tritTerm m (now (row .entry)) (now (v .entry)))) % 3 ⌝ }
 {
     let x = word_at(row, i);
     let u = word_at(row, m + i);
-    let y = word_at(low, i);
-    let w = word_at(high, i);
-    counted(lanes::multiply(x, u, y, w))
+    let y = word_at(v, i);
+    let w = word_at(v, m + i);
+    (lanes::weight(lanes::multiply(x, u, y, w)) % 3) as u8
 }
 
-// A row times the trits of planes `low` and `high`, which end after `m` bytes, modulo 3.
-fn plane_product(row: &[u8], m: usize, low: &[u8], high: &[u8]) -> u8
-    requires { ⌜ (m < 2 ^ 62) × (length (now low) ≤ m) × (length (now high) ≤ m) ⌝ }
-    ensures { λ r. ⌜ r ≡ sum (8 * m) (planeTerm m (now (row .entry)) (now (low .entry)) (now (high .entry))) % 3 ⌝ }
+// What the columns of all whole words of a plane of `m` bytes give.
+fn words_product(row: &[u8], v: &[u8], m: usize) -> u8
+    requires { ⌜ m < 2 ^ 62 ⌝ }
+    ensures { λ r. ⌜ r ≡ sum (8 * (m / 8 * 8)) (tritTerm m (now (row .entry)) (now (v .entry))) % 3 ⌝ }
 {
     let mut acc: u8 = 0;
     let mut i: usize = 0;
-    while i < m {
-        acc = (acc + word_product(row, m, low, high, i)) % 3;
+    while i + 8 <= m {
+        acc = (acc + word_product(row, v, m, i)) % 3;
         i += 8;
     }
     acc
 }
 
-// A row times a vector, modulo 3. The vector's two planes are the halves of `v`.
+// A row times a vector, modulo 3: by words, and byte by byte after the last whole word. The vector's two planes are the halves of `v`.
 fn row_product(row: &[u8], v: &[u8]) -> u8
     ensures { λ r. ⌜ r ≡ rowProduct (length (now (v .entry)) / 2) (now (row .entry)) (now (v .entry)) ⌝ }
 {
     let m = v.len() / 2;
-    plane_product(
-        row,
-        m,
-        bytes::front(v, m),
-        bytes::front(bytes::skip(v, m), m),
-    )
+    let mut acc = words_product(row, v, m);
+    let mut i = m / 8 * 8;
+    while i < m {
+        acc = (acc + byte_product(row, v, m, i)) % 3;
+        i += 1;
+    }
+    acc
 }
 
 // `a` less `b`, and 0 where `b` is more.

@@ -3,6 +3,7 @@ ghost use mathlib.Core.Path.{_≡_};
 ghost use Prim.Native.Nat.{ℕ, _+_, _*_, _%_, _^_, _<_};
 ghost use lib.ListN.{length};
 ghost use Rattle.linear_model.specs.Tables.{sum};
+ghost use Rattle.linear_model.specs.Digits.{digitProduct};
 ghost use Rattle.linear_model.specs.Internal.Words.{setWord, setFour};
 ghost use Rattle.linear_model.specs.Internal.Planes.{tritOf, Narrow};
 use crate::words;
@@ -46,8 +47,9 @@ pub fn add(s: Trits, t: Trits) -> Trits
 }
 
 // The products modulo 3 of trits of planes `x`, `u` and of planes `y`, `w`: not 0 where both are not, and 2 where one of them is.
+// In each place it is the entry of the table of digit products.
 pub fn multiply(x: u64, u: u64, y: u64, w: u64) -> Trits
-    ensures { λ r. ⌜ ((k : ℕ) → tritOf (r .low) (r .high) k ≡ tritOf x u k * tritOf y w k % 3) ⌝ }
+    ensures { λ r. ⌜ ((k : ℕ) → tritOf (r .low) (r .high) k ≡ digitProduct (tritOf x u k % 3) (tritOf y w k % 3)) ⌝ }
 {
     let some = (x ^ u) & (y ^ w);
     let two = some & (u ^ w);

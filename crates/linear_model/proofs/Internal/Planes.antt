@@ -1,23 +1,25 @@
 -- Laws of trits in two planes: sums, differences and products by operations on whole bytes or words.
-use mathlib.Core.Path.{_≡_, refl, ap, ap₂, _∙_}
+use mathlib.Core.Path.{_≡_, refl, sym, ap, ap₂, _∙_}
 use mathlib.Core.List.{List}
 use mathlib.Core.Bool.{Bool, true, false, cond}
-use Prim.Native.Nat.{ℕ, zero, suc, _+_, _-_, _*_, _%_, _^_, _<_, _≤_}
-use native.Mathlib.Nat.{add-mul-mod-self-left, add-mod, mod-mod, mod-add-mod, add-mod-mod, mul-zero, le-step}
+use Prim.Native.Nat.{ℕ, _+_, _*_, _%_, _^_, _<_}
+use native.Mathlib.Nat.{add-mul-mod-self-left, add-mod, mod-mod}
 use native.Mathlib.Omega.{arith}
 use borrow.Author.Tests.{lt-ltb}
 use lib.Bits.{bitXor, bitAnd}
 use lib.Dec.{ltb}
-use lib.ListN.{length, getD, take, drop}
+use lib.ListN.{getD}
 use Rattle.linear_model.specs.Tables.{from, every, sum}
 use Rattle.linear_model.specs.Bits.{bitAt, bit, fromBits}
 use Rattle.linear_model.specs.Trits.{trit, low, high}
+use Rattle.linear_model.specs.Digits.{digitProduct}
 use Rattle.linear_model.specs.Products.{tritTerm}
-use Rattle.linear_model.specs.Internal.Planes.{tritOf, PlaneBits, Narrow, sumLow, sumHigh, nonzero, twos, planeTerm}
+use Rattle.linear_model.specs.Internal.Planes.{tritOf, PlaneBits, Narrow, sumLow, sumHigh, tritProduct, nonzero, twos}
 use Rattle.linear_model.proofs.Tables.{same₂, same₄}
 use Rattle.linear_model.proofs.NumberBits.{from-bits-ext, from-bits-of, bit-at-lt, bit-at-mod, bit-at-zero, xor-bit-at, and-bit-at, or-bit-at}
-use Rattle.linear_model.proofs.Sums.{add-congr, mul-congr, sum-split, sum-ext, sum-zeros}
-use Rattle.linear_model.proofs.Strings.{bit-at, bit-past, bit-take, bit-drop}
+use Rattle.linear_model.proofs.Sums.{sum-congr, sum-split}
+use Rattle.linear_model.proofs.Digits.{remainder-product}
+use Rattle.linear_model.proofs.Strings.{bit-at}
 use Rattle.linear_model.proofs.WordBits.{word-bit-at}
 
 -- ---- trits from bytes and words
@@ -106,60 +108,26 @@ exchanged-bit-at x u a k =
 
 -- ---- products
 
--- the product of two trits, at all sixteen choices of their bits
-pub product-bit-at : (x u y w k : ℕ) → tritOf (bitXor (nonzero x u y w) (twos x u y w)) (twos x u y w) k ≡ tritOf x u k * tritOf y w k % 3
-unfolding every
+-- the product of two trits is the table's entry, at all sixteen choices of their bits
+pub product-bit-at : (x u y w k : ℕ) → tritOf (bitXor (nonzero x u y w) (twos x u y w)) (twos x u y w) k ≡ tritProduct x u y w k
+unfolding every digitProduct
 product-bit-at x u y w k =
     simp (xor-bit-at, and-bit-at)
-    (same₄ 2 (λ x u y w. bitXor (nonzero x u y w) (twos x u y w) + 2 * twos x u y w) (λ x u y w. (x + 2 * u) * (y + 2 * w) % 3) tt
+    (same₄ 2 (λ x u y w. bitXor (nonzero x u y w) (twos x u y w) + 2 * twos x u y w) (λ x u y w. digitProduct ((x + 2 * u) % 3) ((y + 2 * w) % 3)) tt
     _ _ _ _ (bit-at-lt x k) (bit-at-lt u k) (bit-at-lt y k) (bit-at-lt w k))
 
--- a count of ones and twice a count of twos, from their digits modulo 3
-pub count-sum : (s t p : ℕ) → p ≡ 2 * (t % 3) % 3 → (s % 3 + p) % 3 ≡ (s + 2 * t) % 3
-count-sum s t p e = rw (e, mod-add-mod, add-mod-mod) (add-congr 3 s (2 * (t % 3)) s (2 * t) refl (mul-congr 3 2 (t % 3) t (mod-mod t 3)))
+-- the table's entries for columns 8i on of a row and a vector are the terms of their product modulo 3
+module _ (m : ℕ) (row v : List ℕ) (i x u y w : ℕ) where
+  pub product-term : (k : ℕ) → trit m row (8 * i + k) ≡ tritOf x u k → trit m v (8 * i + k) ≡ tritOf y w k → tritProduct x u y w k ≡ tritTerm m row v (8 * i + k) % 3
+  product-term k p q = remainder-product (tritOf x u k) (tritOf y w k) ∙ sym (ap₂ (λ (s t : ℕ). s * t % 3) p q)
 
--- digits 1 and 2, counted, are the sum modulo 3
-count-bits-at : (n one two : ℕ) (f : ℕ → ℕ) → ((k : ℕ) → k < n → bitAt one k + 2 * bitAt two k ≡ f k % 3)
-    → (sum n (bitAt one) + 2 * sum n (bitAt two)) % 3 ≡ sum n f % 3
-unfolding sum
-count-bits-at zero one two f h = refl
-count-bits-at (suc n) one two f h = step _ _ _ _ _ _ (count-bits-at n one two f (λ k l. h k (le-step l))) (h n (omega arith))
-  where
-    step : (s t a b r c : ℕ) → (s + 2 * t) % 3 ≡ r % 3 → a + 2 * b ≡ c % 3 → (s + a + 2 * (t + b)) % 3 ≡ (r + c) % 3
-    step s t a b r c p q = omega arith
+  pub product-terms : (n : ℕ) → ((k : ℕ) → k < n → trit m row (8 * i + k) ≡ tritOf x u k) → ((k : ℕ) → k < n → trit m v (8 * i + k) ≡ tritOf y w k)
+      → sum n (tritProduct x u y w) % 3 ≡ sum n (from (8 * i) (tritTerm m row v)) % 3
+  product-terms n p q =
+      sum-congr 3 n (tritProduct x u y w) (from (8 * i) (tritTerm m row v)) (λ k l. ap (λ (z : ℕ). z % 3) (product-term k (p k l) (q k l)) ∙ mod-mod _ 3)
 
--- 64 columns of a row, by the words of its planes and of a vector's
-pub word-sum : (m : ℕ) (row lo hi : List ℕ) (i x u y w one two : ℕ) → x ≡ fromBits 64 (from (8 * i) (bit row)) → u ≡ fromBits 64 (from (8 * (m + i)) (bit row))
-    → y ≡ fromBits 64 (from (8 * i) (bit lo)) → w ≡ fromBits 64 (from (8 * i) (bit hi))
-    → ((k : ℕ) → bitAt one k + 2 * bitAt two k ≡ tritOf x u k * tritOf y w k % 3)
-    → (sum 64 (bitAt one) + 2 * sum 64 (bitAt two)) % 3 ≡ sum 64 (from (8 * i) (planeTerm m row lo hi)) % 3
-unfolding trit
-word-sum m row lo hi i x u y w one two ex eu ey ew e =
-    count-bits-at 64 one two (from (8 * i) (planeTerm m row lo hi))
-    (λ k l. let o : 8 * (m + i) + k ≡ 8 * m + (8 * i + k) = omega arith in
-    e k ∙ rw (word-bit-at row (8 * i) x ex k l, word-bit-at row (8 * (m + i)) u eu k l, word-bit-at lo (8 * i) y ey k l, word-bit-at hi (8 * i) w ew k l, o))
-
--- 64 terms more of a sum modulo 3
-pub mod-more : (f : ℕ → ℕ) (i x y : ℕ) → x ≡ sum (8 * i) f % 3 → y ≡ sum 64 (from (8 * i) f) % 3 → (x + y) % 3 ≡ sum (8 * (i + 8)) f % 3
-mod-more f i x y p q =
-    let e : 8 * (i + 8) ≡ 8 * i + 64 = omega arith in
+-- the terms of n bytes more of a sum modulo 3
+pub mod-more : (n : ℕ) (f : ℕ → ℕ) (i x y : ℕ) → x ≡ sum (8 * i) f % 3 → y ≡ sum (8 * n) (from (8 * i) f) % 3 → (x + y) % 3 ≡ sum (8 * (i + n)) f % 3
+mod-more n f i x y p q =
+    let e : 8 * (i + n) ≡ 8 * i + 8 * n = omega arith in
     rw (p, q, ← add-mod, e, sum-split)
-
--- past a vector's planes every term is 0
-pub plane-ends : (m : ℕ) (row lo hi : List ℕ) (n : ℕ) → length lo ≤ m → length hi ≤ m → m ≤ n
-    → sum (8 * n) (planeTerm m row lo hi) ≡ sum (8 * m) (planeTerm m row lo hi)
-plane-ends m row lo hi n hl hh h =
-    let f = planeTerm m row lo hi in
-    let e : 8 * n ≡ 8 * m + 8 * (n - m) = omega arith in
-    rw e
-    (sum-zeros (8 * m) (8 * (n - m)) f
-    (λ i. ap (λ (z : ℕ). trit m row (8 * m + i) * z)
-    (ap₂ (λ (a b : ℕ). a + 2 * b) (bit-past lo (8 * m + i) (omega arith)) (bit-past hi (8 * m + i) (omega arith))) ∙ mul-zero (trit m row (8 * m + i))))
-
--- the planes of v are its two halves
-pub plane-parts : (m : ℕ) (row v lo hi : List ℕ) → lo ≡ take m v → hi ≡ take m (drop m v)
-    → sum (8 * m) (planeTerm m row lo hi) ≡ sum (8 * m) (tritTerm m row v)
-unfolding trit
-plane-parts m row v lo hi el eh =
-    sum-ext (8 * m) (planeTerm m row lo hi) (tritTerm m row v)
-    (λ j l. rw (el, eh, bit-take m v j l, bit-take m (drop m v) j l, bit-drop m v j))

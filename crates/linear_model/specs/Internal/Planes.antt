@@ -1,15 +1,19 @@
 -- Trits in two planes, by whole bytes and words of each plane.
 use Prim.Native.Nat.{ℕ, _+_, _*_, _%_}
 use mathlib.Core.Path.{_≡_}
-use mathlib.Core.List.{List}
 use lib.Bits.{bitXor, bitAnd, bitOr}
 use Rattle.linear_model.specs.Tables.{from}
-use Rattle.linear_model.specs.Bits.{bitAt, bit, fromBits}
-use Rattle.linear_model.specs.Trits.{trit, low, high}
+use Rattle.linear_model.specs.Bits.{bitAt, fromBits}
+use Rattle.linear_model.specs.Trits.{low, high}
+use Rattle.linear_model.specs.Digits.{digitProduct}
 
 -- the trit that has its bits in place k of x and of u
 abbrev pub tritOf : ℕ → ℕ → ℕ → ℕ
 tritOf x u k = bitAt x k + 2 * bitAt u k
+
+-- the entry of the table of digit products for the trits in place k of x, u and of y, w: a trit with both bits set counts as 0
+abbrev pub tritProduct : ℕ → ℕ → ℕ → ℕ → ℕ → ℕ
+tritProduct x u y w k = digitProduct (tritOf x u k % 3) (tritOf y w k % 3)
 
 -- x and y are w bits of each plane of the trits f, from byte i on
 pub record PlaneBits (w : ℕ) (f : ℕ → ℕ) (i x y : ℕ) : Type 0 where
@@ -44,7 +48,3 @@ plusOf x u = bitXor (bitAnd (bitXor x u) 0x5555555555555555) u
 
 abbrev pub minusOf : ℕ → ℕ → ℕ
 minusOf x u = bitXor (bitAnd (bitXor x u) 0x5555555555555555) x
-
--- a row and the trits of two planes, multiplied in column j
-abbrev pub planeTerm : ℕ → List ℕ → List ℕ → List ℕ → ℕ → ℕ
-planeTerm m row lo hi j = trit m row j * (bit lo j + 2 * bit hi j)

@@ -9,8 +9,8 @@ use std::hint::black_box;
 /// Bytes of a key and a label; document 01 has 32.
 const STRINGS: [usize; 7] = [8, 16, 31, 32, 33, 64, 128];
 /// Rows, and bytes of a row and the vector; document 01 has 81 and 64.
-const MATRICES: [(usize, usize); 7] =
-    [(27, 64), (81, 64), (162, 64), (81, 32), (81, 66), (81, 128), (162, 128)];
+const MATRICES: [(usize, usize); 8] =
+    [(27, 64), (81, 64), (162, 64), (81, 14), (81, 32), (81, 62), (81, 66), (81, 128)];
 
 /// Adds the rows.
 pub fn rows(random: &mut Random, table: &mut Table) {

@@ -17,7 +17,10 @@ abbrev μ-loop : tie.MeasureT-loop
 
 loop-again : tie.Need-loop-again Inv-loop μ-loop
 loop-again c =
-    (omega arith, or-more 8 _ _ _ _ (c .before .loop-test .taken) (λ i. omega arith) (c .before .before .loop .inv .1) (c .row-bit .ensures))
+    let l = c .before .before in
+    let a = l .before .before .before .args in
+    let f = from (8 * a .p) (bitRow (a .n) (circulant (a .n) (a .key .now)) (a .x .now)) in
+    (omega arith, or-more 8 (l .loop .q) _ _ f (c .before .loop-test .taken) (λ i. omega arith) (l .loop .inv .1) (c .row-bit .ensures))
 
 returns : tie.Need-returns Inv-loop μ-loop
 returns c =

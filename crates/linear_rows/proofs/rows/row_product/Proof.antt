@@ -1,29 +1,40 @@
--- `linear_rows::rows::row_product` meets its contract. The planes of the vector are its two halves.
-use mathlib.Core.Path.{ap, _∙_}
-use mathlib.Core.List.{List}
-use Prim.Native.Nat.{ℕ, _/_, _%_}
+-- `linear_rows::rows::row_product` meets its contract. The invariant of its loop: `acc` is the sum of the columns of the first i bytes.
+use mathlib.Core.Path.{_≡_}
+use Prim.Native.Nat.{_-_, _*_, _/_, _%_, _≤_}
 use native.Mathlib.Omega.{arith}
-use borrow.Author.Needs.{needs}
-use lib.ListN.{length, take}
-use Rattle.linear_model.proofs.Internal.Planes.{plane-parts}
+use lib.ListN.{length}
+use Rattle.linear_model.specs.Tables.{sum}
+use Rattle.linear_model.specs.Products.{tritTerm}
+use Rattle.linear_model.proofs.Internal.Planes.{mod-more}
 use Rattle.linear_rows.proofs.rows.row_product.Statement.{statement}
 use Rattle.linear_rows.proofs.rows.row_product.Tie as tie
 
-returns : tie.Need-returns
+abbrev Inv-loop : tie.InvT-loop
+Inv-loop row v m acc₀ i₀ acc i = (i ≤ m) × (acc ≡ sum (8 * i) (tritTerm m row v) % 3)
+
+abbrev μ-loop : tie.MeasureT-loop
+μ-loop row v m acc₀ i₀ acc i = m - i
+
+loop-again : tie.Need-loop-again Inv-loop μ-loop
+loop-again c = (omega arith, mod-more 1 _ _ _ _ (c .before .before .loop .inv .1) (c .byte-product .ensures))
+
+returns : tie.Need-returns Inv-loop μ-loop
 returns c =
-    let a = c .before .before .before .before .before .before .args in
-    let m = length (a .v .now) / 2 in
-    c .plane-product .ensures
-    ∙ ap (λ (s : ℕ). s % 3)
-    (plane-parts m (a .row .now) (a .v .now) _ _ (c .before .before .before .front .ensures .0)
-    (c .before .front2 .ensures .0 ∙ ap (λ (s : List ℕ). take m s) (c .before .before .skip .ensures)))
+    let e : c .before .loop .i ≡ length (c .before .before .before .before .before .args .v .now) / 2 = omega arith in
+    rw e at (c .before .loop .inv .1)
 
 pub row-product-spec : {M : Type 1} → statement M
 row-product-spec =
     tie.close
     (tie.spec
-    (λ c κs. search needs)
-    (λ c κs. search needs)
-    (λ c κs. search needs)
+    Inv-loop
+    μ-loop
     (λ c κs. omega arith)
+    (λ c. omega arith)
+    (λ c. (omega arith, c .words-product .ensures))
+    (λ c κs. omega arith)
+    (λ c. omega arith)
+    (λ c. omega arith)
+    (λ c. omega arith)
+    loop-again
     returns)

@@ -1,4 +1,4 @@
--- `linear_words::lanes::multiply` meets its contract. The formula is the product at all sixteen choices of four bits.
+-- `linear_words::lanes::multiply` meets its contract. The formula is the table's entry at all sixteen choices of four bits.
 use Rattle.linear_model.proofs.Internal.Planes.{product-bit-at}
 use Rattle.linear_words.proofs.lanes.multiply.Statement.{statement}
 use Rattle.linear_words.proofs.lanes.multiply.Tie as tie
