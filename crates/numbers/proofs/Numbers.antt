@@ -112,3 +112,8 @@ unfolding first
 first-after [] l p e = refl
 first-after (number when true ∷ k) l p e = absurd (omega (arith, p .0))
 first-after (number when false ∷ k) l p e = first-after k l (p .1) e
+
+-- where both give 0, no condition of the first holds
+pub none-before : (k l : List Condition) → Positive k → first (k ++ l) ≡ 0 → NoneHolds k
+none-before [] l p e = tt
+none-before (number when b ∷ k) l p e = let h = first-none number b (k ++ l) (p .0) e in (h .0, none-before k l (p .1) (h .1))

@@ -19,8 +19,8 @@ use pair_frames::sizes::TRITS_BYTES;
 
 // The inner vector of a key and a label, as trits: its bits are the low plane.
 fn inner_vector(key: &[u8], label: &[u8]) -> [u8; TRITS_BYTES]
-    requires { ⌜ (length (now key) ≡ 32) × (length (now label) ≡ 32) ⌝ }
-    ensures { λ r. ⌜ r ≡ bitTrits 32 (circulantProduct 32 (now (key .entry)) (now (label .entry))) ⌝ }
+    requires { ⌜ (length (now key) ≡ base .keyBytes) × (length (now label) ≡ base .keyBytes) ⌝ }
+    ensures { λ r. ⌜ r ≡ bitTrits (base .innerBytes) (circulantProduct (base .keyBytes) (now (key .entry)) (now (label .entry))) ⌝ }
 {
     let w = product_32(array_32(key, 0), array_32(label, 0));
     let mut v = [0u8; TRITS_BYTES];

@@ -6,6 +6,7 @@ ghost use lib.Dec.{eqb, ltb};
 ghost use Prim.Native.Nat.{_≤_};
 ghost use lib.ListN.{length};
 ghost use Rattle.linear_model.specs.Trits.{fitTrits, zeroTrits};
+ghost use Rattle.linear_model.specs.Products.{planeBytes};
 ghost use Rattle.numbers.specs.Number.{_when_, first, output};
 ghost use Rattle.pair_model.specs.Base.{base};
 ghost use Rattle.pair_model.specs.Frame.{shareKind, frameBytes, codeBytes};
@@ -45,7 +46,10 @@ fn lower(a: u32, b: u32) -> u32
 fn share_number(v: &[u8]) -> u32
     requires { ⌜ length (now v) ≡ codeBytes base ⌝ }
     ensures { λ n. ⌜
-        n ≡ first (10 when not (fitTrits 11 81 (now (v .entry))) ∷ 11 when not (zeroTrits 11 81 (now (v .entry))) ∷ [])
+        n ≡ first
+        (10 when not (fitTrits (planeBytes (base .digits)) (base .digits) (now (v .entry)))
+        ∷ 11 when not (zeroTrits (planeBytes (base .digits)) (base .digits) (now (v .entry)))
+        ∷ [])
         ⌝ }
 {
     let fit = trits_fit(v, DIGITS);

@@ -3,6 +3,7 @@ pub mod Layouts
 pub mod TapeParts
 pub mod Pairing
 pub mod MaskLaws
+pub mod HeaderLaws
 pub mod StepLaws
 pub mod Stages
 pub mod Configurations

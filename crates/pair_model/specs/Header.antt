@@ -28,3 +28,21 @@ readHeader S lowest highest f =
 abbrev pub headerNumber : Header → ℕ
 headerNumber (fields kind side session body) = 0
 headerNumber (refusal number) = number
+
+-- whether the frame was refused with this number
+abbrev pub refusedWith : ℕ → Header → Bool
+refusedWith number (fields kind side session body) = false
+refusedWith number (refusal told) = eqb told number
+
+-- the kind, the side and the session that were read; of a refused frame, whose number comes first, 0
+abbrev pub kindRead : Header → ℕ
+kindRead (fields kind side session body) = kind
+kindRead (refusal number) = 0
+
+abbrev pub sideRead : Header → ℕ
+sideRead (fields kind side session body) = side
+sideRead (refusal number) = 0
+
+abbrev pub sessionRead : Header → ℕ
+sessionRead (fields kind side session body) = session
+sessionRead (refusal number) = 0

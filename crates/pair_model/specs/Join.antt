@@ -3,21 +3,14 @@ use Prim.Native.Nat.{ℕ}
 use mathlib.Core.List.{List, [], _∷_}
 use mathlib.Core.Bool.{Bool, not, _||_}
 use lib.Dec.{ltb, eqb}
-use lib.ListN.{length}
 use Rattle.linear_model.specs.Trits.{fitTrits, zeroTrits, addTrits}
 use Rattle.linear_model.specs.Products.{planeBytes}
 use Rattle.numbers.specs.Number.{Condition, _when_, first}
 use Rattle.pair_model.specs.Scheme.{Scheme}
-use Rattle.pair_model.specs.Frame.{shareKind, headerBytes, kindOf, sideOf, sessionOf, bodyOf, frameBytes, codeBytes}
+use Rattle.pair_model.specs.Frame.{shareKind, bodyOf, codeBytes}
+use Rattle.pair_model.specs.Header.{readHeader, refusedWith, sideRead, sessionRead}
 
 module _ (S : Scheme) where
-  -- a frame that is no share frame, and one of another length
-  abbrev pub notShare : List ℕ → Bool
-  notShare f = ltb (length f) headerBytes || not (eqb (kindOf f) shareKind)
-
-  abbrev pub badLength : List ℕ → Bool
-  badLength f = not (eqb (length f) (frameBytes S shareKind))
-
   -- a digit with both bits set, and an unused bit that is set
   abbrev pub unfitShare : List ℕ → Bool
   unfitShare f = not (fitTrits (planeBytes (S .digits)) (S .digits) (bodyOf f))
@@ -27,11 +20,13 @@ module _ (S : Scheme) where
 
   unfoldable pub joinConditions : List ℕ → List ℕ → ℕ → List Condition
   joinConditions f g outputLength =
+      let p = readHeader S shareKind shareKind f in
+      let q = readHeader S shareKind shareKind g in
       1 when ltb outputLength (codeBytes S)
-      ∷ 3 when (notShare f || notShare g)
-      ∷ 4 when (badLength f || badLength g)
-      ∷ 5 when not (eqb (sessionOf f) (sessionOf g))
-      ∷ 6 when (not (eqb (sideOf f) 0) || not (eqb (sideOf g) 1))
+      ∷ 3 when (refusedWith 3 p || refusedWith 3 q)
+      ∷ 4 when (refusedWith 4 p || refusedWith 4 q)
+      ∷ 5 when not (eqb (sessionRead p) (sessionRead q))
+      ∷ 6 when (not (eqb (sideRead p) 0) || not (eqb (sideRead q) 1))
       ∷ 10 when (unfitShare f || unfitShare g)
       ∷ 11 when (spareSet f || spareSet g)
       ∷ []

@@ -1,6 +1,7 @@
 pub mod Scheme
 pub mod Tape
 pub mod Frame
+pub mod Header
 pub mod Sampler
 pub mod Evaluator
 pub mod Unit
@@ -10,7 +11,6 @@ pub mod Base
 pub mod Run
 pub mod View
 pub mod Theorem
-pub mod Header
 pub mod StateSlice
 pub mod WholeRun
 pub mod Lowest

@@ -9,7 +9,8 @@ use Rattle.linear_model.specs.Trits.{fitTrits, innerShare}
 use Rattle.numbers.specs.Number.{Condition, _when_, first, onlyIf}
 use Rattle.pair_model.specs.Scheme.{Scheme, field, concat}
 use Rattle.pair_model.specs.Tape.{dealLayout}
-use Rattle.pair_model.specs.Frame.{Parameters, parameters, dealKind, openKind, maskKind, shareKind, frame, headerBytes, kindOf, sideOf, sessionOf, bodyOf, openLayout, frameBytes}
+use Rattle.pair_model.specs.Frame.{Parameters, parameters, dealKind, openKind, maskKind, shareKind, frame, kindOf, bodyOf, openLayout, frameBytes}
+use Rattle.pair_model.specs.Header.{readHeader, refusedWith, kindRead, sideRead, sessionRead}
 use Rattle.pair_model.specs.Evaluator.{codeOf}
 
 -- ---- states: the stage is the kind of frame that the unit waits for, 4 where it is done and 0 where it is idle
@@ -136,14 +137,15 @@ module _ (S : Scheme) where
   lengthConditions f file outputLength =
       1 when ltb outputLength leastOutput ∷ 1 when (readsFile f && not (eqb (length file) (S .fileBytes))) ∷ []
 
-  -- the header, of the unit's parameters and stage alone: no half and nothing of a deal is read
+  -- what the frame is read to, by the unit's parameters and stage alone: no half and nothing of a deal is read
   abbrev pub headerConditions : Parameters → ℕ → List ℕ → List Condition
   headerConditions t stage f =
-      3 when (ltb (length f) headerBytes || (ltb (kindOf f) dealKind || ltb maskKind (kindOf f)))
-      ∷ 4 when not (eqb (length f) (frameBytes S (kindOf f)))
-      ∷ 5 when not (eqb (sessionOf f) (t .session))
-      ∷ 6 when not (eqb (sideOf f) (expectedSide (kindOf f) (t .side)))
-      ∷ 7 when not (eqb (kindOf f) stage)
+      let h = readHeader S dealKind maskKind f in
+      3 when refusedWith 3 h
+      ∷ 4 when refusedWith 4 h
+      ∷ 5 when not (eqb (sessionRead h) (t .session))
+      ∷ 6 when not (eqb (sideRead h) (expectedSide (kindRead h) (t .side)))
+      ∷ 7 when not (eqb (kindRead h) stage)
       ∷ []
 
   -- what the frame brings: the file that is read, or the trits of a deal

@@ -11,6 +11,7 @@ use lib.ListN.{length}
 use Rattle.numbers.specs.Number.{_when_, first}
 use Rattle.pair_model.specs.Scheme.{Scheme, Linear, Side, side0, side1, other}
 use Rattle.pair_model.specs.Tape.{Accepted}
+use Rattle.pair_model.specs.Header.{readHeader}
 use Rattle.pair_model.specs.Unit.{State, readsFile, leastOutput, stepConditions, step}
 use Rattle.pair_model.specs.Run.{Protocol, protocol, Inputs, WellFormed, Run, runOf, Configuration, asSent, stray, Entry, entry, Lent, SharedEntry, same, differ, update, start, stepOf, next, ListOf, Comparable}
 use Rattle.pair_model.specs.Sample.{withStrays}
@@ -37,7 +38,7 @@ module _ (S : Scheme) (u : State) where
 
   -- an empty frame of a slice that is long enough
   pub empty-frame : (file : List ℕ) → step S u [] file (leastOutput S) .result ≡ 3
-  unfolding stepConditions first readsFile
+  unfolding stepConditions first readsFile readHeader
   empty-frame file =
       step-result S u [] file (leastOutput S)
       ∙ (λ j. first (1 when at-least (leastOutput S) (leastOutput S) (le-refl (leastOutput S)) j

@@ -12,6 +12,7 @@ use Rattle.linear_model.specs.Products.{bitProduct}
 use Rattle.numbers.specs.Number.{first, onlyIf}
 use Rattle.pair_model.specs.Scheme.{Scheme, Side, side0, side1, field, concat}
 use Rattle.pair_model.specs.Frame.{parameters, openKind, frame, header}
+use Rattle.pair_model.specs.Header.{readHeader}
 use Rattle.pair_model.specs.Unit.{State, state, nothing, leastOutput, beginConditions, begin, readsFile, stepConditions, takeDeal, step}
 use Rattle.pair_model.specs.Run.{Inputs, WellFormed, Run, runOf, Lent, start, DeliveredAsSent}
 use Rattle.pair_model.specs.View.{View, events, view}
@@ -91,7 +92,7 @@ abbrev dealOfZeros : Lent
 dealOfZeros = record { frame = 1 ∷ 0 ∷ 1 ∷ 0 ∷ 0 ∷ 0 ∷ zeros 5; file = []; outputLength = 8 }
 
 pub second-deal-fails : ¬ Demand3 (secondDeal small)
-unfolding dealAgain step stepConditions readsFile onlyIf first fitTrits every trit bit field takeDeal
+unfolding dealAgain step stepConditions readHeader readsFile onlyIf first fitTrits every trit bit field takeDeal
 second-deal-fails d = two-three (d .threeFrames .counts waiting (dealOfZeros ∷ []) (lit≤ tt))
   where
     two-three : ¬ (_≡_ {A = ℕ} 2 3)

@@ -1,60 +1,35 @@
--- What a header that was read says of the frame.
-use mathlib.Core.Path.{_≡_, refl}
+-- The number of a header that was read.
+use mathlib.Core.Path.{_≡_, sym, ap}
 use mathlib.Core.List.{List, _∷_}
-use mathlib.Core.Bool.{Bool, true, false, cond, not, _||_}
-use Prim.Native.Nat.{ℕ, _-_}
+use Prim.Native.Nat.{ℕ}
 use native.Mathlib.Omega.{arith}
-use lib.Dec.{ltb, eqb}
-use lib.ListN.{length}
 use Rattle.numbers.specs.Number.{Condition, _when_, first}
 use Rattle.pair_model.specs.Scheme.{Scheme}
-use Rattle.pair_model.specs.Frame.{headerBytes, kindOf, sideOf, sessionOf, frameBytes}
-use Rattle.pair_model.specs.Header.{fields, refusal, choose, readHeader}
+use Rattle.pair_model.specs.Header.{Header, fields, refusal, headerNumber, refusedWith}
+use Rattle.pair_model.proofs.Theorem.HeaderLaws.{headerRead, Whole, read-whole, Outcome, isWhole, isRefused3, isRefused4, outcome, whole-read}
 
 module _ (S : Scheme) (lowest highest : ℕ) (f : List ℕ) where
-  -- the frame is not of the kinds that are read, or is shorter than a header; and it has another length than its kind's
-  abbrev pub strange : Bool
-  strange = ltb (length f) headerBytes || (ltb (kindOf f) lowest || ltb highest (kindOf f))
+  abbrev h : Header
+  h = headerRead S lowest highest f
 
-  abbrev pub misfit : Bool
-  misfit = not (eqb (length f) (frameBytes S (kindOf f)))
-
-  -- fields are the frame's, and neither holds
-  pub record Read (kind side session : ℕ) : Type 0 where
-    pub kind-is : kind ≡ kindOf f
-    pub side-is : side ≡ sideOf f
-    pub session-is : session ≡ sessionOf f
-    pub known : strange ≡ false
-    pub fitting : misfit ≡ false
-
-  pub header-fields : (kind side session body : ℕ) → fields kind side session body ≡ readHeader S lowest highest f → Read kind side session
-  unfolding readHeader
-  header-fields kind side session body e =
-      pick (ltb (length f) headerBytes) (ltb (kindOf f) lowest) (ltb highest (kindOf f)) misfit refl refl refl refl e
+  -- 3 and 4 come first in it, and what comes after must have none for a whole frame
+  pub header-number : (cs : List Condition) → (Whole S lowest highest f → first cs ≡ 0) → headerNumber h ≡ first (3 when refusedWith 3 h ∷ 4 when refusedWith 4 h ∷ cs)
+  unfolding first
+  header-number cs none = pick (outcome S lowest highest f)
     where
-      pick : (a b c d : Bool) → ltb (length f) headerBytes ≡ a → ltb (kindOf f) lowest ≡ b → ltb highest (kindOf f) ≡ c → misfit ≡ d
-          → fields kind side session body
-          ≡ choose a (refusal 3) (choose b (refusal 3) (choose c (refusal 3) (choose d (refusal 4) (fields (kindOf f) (sideOf f) (sessionOf f) (length f - headerBytes)))))
-          → Read kind side session
-      pick true b c d ea eb ec ed e = absurd (let z : _≡_ {A = ℕ} 0 1 = cc in omega arith)
-      pick false true c d ea eb ec ed e = absurd (let z : _≡_ {A = ℕ} 0 1 = cc in omega arith)
-      pick false false true d ea eb ec ed e = absurd (let z : _≡_ {A = ℕ} 0 1 = cc in omega arith)
-      pick false false false true ea eb ec ed e = absurd (let z : _≡_ {A = ℕ} 0 1 = cc in omega arith)
-      pick false false false false ea eb ec ed e =
-          record { kind-is = cc; side-is = cc; session-is = cc; known = λ i. (_||_) (ea i) ((_||_) (eb i) (ec i)); fitting = ed }
+      pick : Outcome S lowest highest f → headerNumber h ≡ first (3 when refusedWith 3 h ∷ 4 when refusedWith 4 h ∷ cs)
+      pick (isWhole w) = rw (read-whole S lowest highest f w) (sym (none w))
+      pick (isRefused3 e) = rw e
+      pick (isRefused4 e) = rw e
 
-  -- a refusal is the first of the two numbers whose condition holds, whatever comes after
-  pub header-refused : (number : ℕ) → refusal number ≡ readHeader S lowest highest f → (rest : List Condition)
-      → number ≡ first (3 when strange ∷ 4 when misfit ∷ rest)
-  unfolding readHeader first
-  header-refused number e rest = pick (ltb (length f) headerBytes) (ltb (kindOf f) lowest) (ltb highest (kindOf f)) misfit e
-    where
-      pick : (a b c d : Bool)
-          → refusal number
-          ≡ choose a (refusal 3) (choose b (refusal 3) (choose c (refusal 3) (choose d (refusal 4) (fields (kindOf f) (sideOf f) (sessionOf f) (length f - headerBytes)))))
-          → number ≡ cond (a || (b || c)) 3 (cond d 4 (first rest))
-      pick true b c d e = cc
-      pick false true c d e = cc
-      pick false false true d e = cc
-      pick false false false true e = cc
-      pick false false false false e = absurd (let z : _≡_ {A = ℕ} 0 1 = cc in omega arith)
+  -- a frame whose fields were read is whole
+  pub fields-whole : {kind side session body : ℕ} → h ≡ fields kind side session body → Whole S lowest highest f
+  fields-whole e = whole-read S lowest highest f (ap (refusedWith 3) e) (ap (refusedWith 4) e)
+
+  -- one that is refused is not
+  pub not-whole : {number : ℕ} → h ≡ refusal number → Whole S lowest highest f → ⊥
+  not-whole e w = let r = read-whole S lowest highest f w in let z : _≡_ {A = ℕ} 0 1 = cc in omega arith
+
+  -- so nothing that comes after matters
+  pub header-refused : {number : ℕ} → h ≡ refusal number → (cs : List Condition) → headerNumber h ≡ first (3 when refusedWith 3 h ∷ 4 when refusedWith 4 h ∷ cs)
+  header-refused e cs = header-number cs (λ w. absurd (not-whole e w))

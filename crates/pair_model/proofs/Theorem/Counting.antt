@@ -1,46 +1,21 @@
 -- Three accepted frames, no more and no fewer, whatever the calls are, and from any state.
 use Prim.Native.Nat.{ℕ, zero, suc, _+_, _≤_}
 use mathlib.Core.Path.{_≡_, refl, sym, ap, _∙_, subst}
-use mathlib.Core.List.{List, [], _∷_, _++_}
-use mathlib.Core.Bool.{Bool, false, cond, not, _&&_, _||_}
+use mathlib.Core.List.{List, [], _∷_}
+use mathlib.Core.Bool.{cond}
 use native.Mathlib.Omega.{arith}
-use lib.Dec.{ltb, eqb, eqb·suc-zero, lit<}
-use lib.ListN.{length}
-use Rattle.numbers.specs.Number.{Condition, _when_, first, onlyIf}
+use lib.Dec.{eqb, eqb·suc-zero}
 use Rattle.pair_model.specs.Scheme.{Scheme}
-use Rattle.pair_model.specs.Frame.{Parameters, dealKind, maskKind, headerBytes, kindOf, sideOf, sessionOf, bodyOf, frameBytes}
-use Rattle.pair_model.specs.Unit.{State, Stepped, doneStage, expectedSide, readsFile, leastOutput, unfitDeal, stepConditions, stepNumber, takeDeal, takeOpen, takeMask, advance, step}
+use Rattle.pair_model.specs.Frame.{Parameters, bodyOf}
+use Rattle.pair_model.specs.Unit.{State, Stepped, doneStage, stepNumber, takeDeal, takeOpen, takeMask, advance, step}
 use Rattle.pair_model.specs.Run.{Protocol, protocol, Lent}
 use Rattle.pair_model.specs.Theorem.{acceptedCount, after, ThreeFrames}
-use Rattle.numbers.proofs.Numbers.{is-at-least, is-equal, or-left, or-right, first-none}
-use Rattle.pair_model.proofs.Theorem.StepLaws.{numberFor, step-result, step-accepted, step-refused}
-
--- where a list with 3 in the third and 7 in the seventh place gives 0, neither condition holds
-module _ (a b c d e f g : Bool) (cs : List Condition) where
-  none-of-7 : first (1 when a ∷ 1 when b ∷ 3 when c ∷ 4 when d ∷ 5 when e ∷ 6 when f ∷ 7 when g ∷ cs) ≡ 0 → (c ≡ false) × (g ≡ false)
-  none-of-7 h =
-      let h₂ = first-none 1 a (1 when b ∷ 3 when c ∷ 4 when d ∷ 5 when e ∷ 6 when f ∷ 7 when g ∷ cs) (lit< tt) h .1 in
-      let h₃ = first-none 1 b (3 when c ∷ 4 when d ∷ 5 when e ∷ 6 when f ∷ 7 when g ∷ cs) (lit< tt) h₂ .1 in
-      let h₄ = first-none 3 c (4 when d ∷ 5 when e ∷ 6 when f ∷ 7 when g ∷ cs) (lit< tt) h₃ in
-      let h₅ = first-none 4 d (5 when e ∷ 6 when f ∷ 7 when g ∷ cs) (lit< tt) (h₄ .1) .1 in
-      let h₆ = first-none 5 e (6 when f ∷ 7 when g ∷ cs) (lit< tt) h₅ .1 in
-      let h₇ = first-none 6 f (7 when g ∷ cs) (lit< tt) h₆ .1 in
-      (h₄ .0, first-none 7 g cs (lit< tt) h₇ .0)
+use Rattle.pair_model.proofs.Theorem.StepLaws.{fits, numberFor, step-result, step-accepted, step-refused}
 
 module _ (S : Scheme) where
   -- a frame is accepted only at the stages 1 to 3
   waits : (t : Parameters) (stage : ℕ) (f file : List ℕ) (outputLength : ℕ) → stepNumber S t stage f file outputLength ≡ 0 → (1 ≤ stage) × (stage ≤ 3)
-  unfolding stepConditions
-  waits t stage f file outputLength h =
-      let k = none-of-7 (ltb outputLength (leastOutput S)) (readsFile S f && not (eqb (length file) (S .fileBytes)))
-      (ltb (length f) headerBytes || (ltb (kindOf f) dealKind || ltb maskKind (kindOf f))) (not (eqb (length f) (frameBytes S (kindOf f))))
-      (not (eqb (sessionOf f) (t .session))) (not (eqb (sideOf f) (expectedSide (kindOf f) (t .side)))) (not (eqb (kindOf f) stage))
-      (onlyIf (readsFile S f) (S .faults file) ++ onlyIf (eqb (kindOf f) dealKind) (10 when unfitDeal S f ∷ [])) h in
-      let r = or-right (ltb (length f) headerBytes) (ltb (kindOf f) dealKind || ltb maskKind (kindOf f)) (k .0) in
-      subst (λ (n : ℕ). (1 ≤ n) × (n ≤ 3)) (is-equal (kindOf f) stage (k .1)) (
-        is-at-least (kindOf f) dealKind (or-left (ltb (kindOf f) dealKind) (ltb maskKind (kindOf f)) r),
-        is-at-least maskKind (kindOf f) (or-right (ltb (kindOf f) dealKind) (ltb maskKind (kindOf f)) r),
-      )
+  waits t stage f file outputLength h = let k = fits S t stage f file outputLength h in (k .low, k .high)
 
   -- and takes the unit one stage on
   moves : (u : State) (body file : List ℕ) → (1 ≤ u .stage) × (u .stage ≤ 3) → advance S u body file .next .stage ≡ suc (u .stage)

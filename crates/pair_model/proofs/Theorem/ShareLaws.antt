@@ -1,25 +1,27 @@
 -- The counter's join takes the two share frames of a run, and gives the run's own code.
 use Prim.Native.Nat.{ℕ, _+_, _-_, _*_, _<_}
 use mathlib.Core.Path.{_≡_, refl, ap, _∙_}
-use mathlib.Core.List.{List, [], _∷_}
-use mathlib.Core.Bool.{Bool, true, false, cond, not, _||_}
+use mathlib.Core.List.{List}
+use mathlib.Core.Bool.{Bool, true, cond}
 use native.Mathlib.Omega.{arith}
 use native.Mathlib.Nat.{le-refl}
-use lib.Dec.{T, ltb, eqb}
+use lib.Dec.{T, lit≤}
 use lib.ListN.{length}
 use Rattle.linear_model.specs.Bits.{Bytes}
 use Rattle.linear_model.specs.Trits.{trit, fitTrits, zeroTrit, zeroTrits}
 use Rattle.linear_model.specs.Products.{planeBytes, rowDigit}
 use Rattle.linear_model.proofs.Tables.{every-of}
 use Rattle.linear_model.proofs.Linearity.{trit-matrix, bytes-matrix, fit-matrix}
-use Rattle.numbers.specs.Number.{_when_, first}
+use Rattle.numbers.specs.Number.{first}
 use Rattle.pair_model.specs.Scheme.{Scheme, Linear, Side, side0, side1, total}
-use Rattle.pair_model.specs.Frame.{shareKind, header, frame, headerBytes, sessionOf, frameBytes, codeBytes}
+use Rattle.pair_model.specs.Frame.{shareKind, header, frame, headerBytes, sideOf, sessionOf, codeBytes}
+use Rattle.pair_model.specs.Header.{fields}
 use Rattle.pair_model.specs.Evaluator.{codeOf, code}
 use Rattle.pair_model.specs.Unit.{shareOf}
 use Rattle.pair_model.specs.Join.{joinConditions, joinNumber, joined}
 use Rattle.pair_model.specs.Run.{Inputs}
 use Rattle.numbers.proofs.Numbers.{is-true, at-least, equal}
+use Rattle.pair_model.proofs.Theorem.HeaderLaws.{headerRead, read-whole}
 use Rattle.pair_model.proofs.Theorem.MaskLaws.{share, shares-add}
 use Rattle.pair_model.proofs.Theorem.Stages.{parametersAt}
 
@@ -69,30 +71,25 @@ module _ (S : Scheme) (a : Inputs) (tape : List ℕ) where
   unfolding share shareOf
   spare-share i = is-true (zeroTrits (planeBytes (S .digits)) (S .digits) (share S a tape i)) (spare-code S (a .file) _)
 
-  whole-share : (i : Side) → length (shareFrameOf i) ≡ frameBytes S shareKind
+  -- it is read
+  reads : (i : Side) → let f = shareFrameOf i in headerRead S shareKind shareKind f ≡ fields shareKind (sideOf f) (sessionOf f) (length f - headerBytes)
   unfolding frame header
-  whole-share i = omega (arith, bytes-share i .size)
-
-  long : (i : Side) → ltb (length (shareFrameOf i)) headerBytes ≡ false
-  unfolding frame header
-  long i = at-least (length (shareFrameOf i)) headerBytes (omega arith)
+  reads i = read-whole S shareKind shareKind (shareFrameOf i) (record { low = lit≤ tt; high = lit≤ tt; long = omega (arith, bytes-share i .size) })
 
   -- it takes both share frames
   pub joins-shares : joinNumber S (shareFrameOf side0) (shareFrameOf side1) (codeBytes S) ≡ 0
   unfolding joinConditions first frame header
   joins-shares =
-      λ j. first
-      (1 when at-least (codeBytes S) (codeBytes S) (le-refl (codeBytes S)) j
-      ∷ 3 when ((long side0 j || false) || (long side1 j || false))
-      ∷ 4 when (not (whole side0 j) || not (whole side1 j))
-      ∷ 5 when not (equal (sessionOf (shareFrameOf side0)) (sessionOf (shareFrameOf side1)) refl j)
-      ∷ 6 when false
-      ∷ 10 when (not (fit-share side0 j) || not (fit-share side1 j))
-      ∷ 11 when (not (spare-share side0 j) || not (spare-share side1 j))
-      ∷ [])
-    where
-      whole : (i : Side) → eqb (length (shareFrameOf i)) (frameBytes S shareKind) ≡ true
-      whole i = equal (length (shareFrameOf i)) (frameBytes S shareKind) (whole-share i)
+      rw (
+        at-least (codeBytes S) (codeBytes S) (le-refl (codeBytes S)),
+        reads side0,
+        reads side1,
+        equal (sessionOf (shareFrameOf side0)) (sessionOf (shareFrameOf side1)) refl,
+        fit-share side0,
+        fit-share side1,
+        spare-share side0,
+        spare-share side1,
+      )
 
   -- and gives the code
   pub joins-to-code : Linear S

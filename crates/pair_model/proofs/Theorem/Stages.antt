@@ -5,7 +5,7 @@ use mathlib.Core.List.{List, [], _∷_, _++_}
 use mathlib.Core.Bool.{Bool, true, false, cond, not, _&&_}
 use native.Mathlib.Omega.{arith}
 use native.Mathlib.Nat.{le-refl}
-use lib.Dec.{T, eqb}
+use lib.Dec.{T, eqb, lit≤}
 use lib.ListN.{length, getD}
 use Rattle.linear_model.specs.Bits.{Bytes, zeros, addBits}
 use Rattle.linear_model.specs.Trits.{fitTrits}
@@ -130,7 +130,7 @@ module _ (S : Scheme) (L : Linear S) (a : Inputs) (tape : List ℕ) (well : Well
   pub accepts-deal : stepNumber S (parametersAt S a tape i) dealKind (incoming S a tape i 0) file outputLength ≡ 0
   unfolding incoming dealFrame readsFile frame header first onlyIf
   accepts-deal =
-      accepts-expected S (parametersAt S a tape i) dealKind (deal S (a .file) tape i) file outputLength (well .session) long refl
+      accepts-expected S (parametersAt S a tape i) dealKind (deal S (a .file) tape i) file outputLength (well .session) long (lit≤ tt) (lit≤ tt)
       (bytes-deal S (a .file) tape h i .size)
       (λ j. unread-deal (S .productReads) j && not (eqb (length file) (S .fileBytes)))
       ((λ j. first (onlyIf (unread-deal (S .productReads) j) (S .faults file)
@@ -155,7 +155,7 @@ module _ (S : Scheme) (L : Linear S) (a : Inputs) (tape : List ℕ) (well : Well
   accepts-open e =
       subst (λ (s : ℕ). stepNumber S (parametersAt S a tape i) openKind (frame openKind (parameters s (a .session)) (openBody S a tape (other i))) file outputLength ≡ 0)
       (other-side i)
-      (accepts-expected S (parametersAt S a tape i) openKind (openBody S a tape (other i)) file outputLength (well .session) long refl
+      (accepts-expected S (parametersAt S a tape i) openKind (openBody S a tape (other i)) file outputLength (well .session) long (lit≤ tt) (lit≤ tt)
       (bytes-open (other i) .size) (read-length S file (readsFile S (incoming S a tape i 1)) (fit-file 1 e))
       (read-faults S file (readsFile S (incoming S a tape i 1)) (fit-file 1 e)))
 
@@ -165,7 +165,7 @@ module _ (S : Scheme) (L : Linear S) (a : Inputs) (tape : List ℕ) (well : Well
   accepts-mask e =
       subst (λ (s : ℕ). stepNumber S (parametersAt S a tape i) maskKind (frame maskKind (parameters s (a .session)) (mask S a tape (other i))) file outputLength ≡ 0)
       (other-side i)
-      (accepts-expected S (parametersAt S a tape i) maskKind (mask S a tape (other i)) file outputLength (well .session) long refl
+      (accepts-expected S (parametersAt S a tape i) maskKind (mask S a tape (other i)) file outputLength (well .session) long (lit≤ tt) (lit≤ tt)
       (bytes-mask S a tape (other i) .size) (read-length S file (readsFile S (incoming S a tape i 2)) (fit-file 2 e))
       (read-faults S file (readsFile S (incoming S a tape i 2)) (fit-file 2 e)))
 

@@ -1,17 +1,19 @@
--- A step by itself: a frame that the unit waits for is accepted, and what a refusal leaves.
+-- A step by itself: a frame that the unit waits for is accepted, what holds of an accepted one, and what a refusal leaves.
 use Prim.Native.Nat.{ℕ, zero, suc, _+_, _*_, _/_, _%_, _^_, _≤_, _<_}
-use mathlib.Core.Path.{_≡_, refl, _∙_}
+use mathlib.Core.Path.{_≡_, refl, sym, ap, _∙_}
 use mathlib.Core.Logic.{_≢_}
-use mathlib.Core.List.{List, [], _∷_, _++_}
-use mathlib.Core.Bool.{Bool, true, false, cond, not, _&&_, _||_}
+use mathlib.Core.List.{List, [], _++_}
+use mathlib.Core.Bool.{Bool, true, false, cond, not, _&&_}
 use native.Mathlib.Omega.{arith}
-use lib.Dec.{T, ltb, eqb, eqb·suc-zero, lit<}
+use lib.Dec.{T, eqb, eqb·suc-zero, lit<}
 use lib.ListN.{length}
-use Rattle.numbers.specs.Number.{_when_, first, onlyIf}
+use Rattle.numbers.specs.Number.{first, onlyIf}
 use Rattle.pair_model.specs.Scheme.{Scheme, fileNumber}
-use Rattle.pair_model.specs.Frame.{Parameters, parameters, dealKind, maskKind, header, frame, headerBytes, sessionOf, bodyOf, bodyBytes, frameBytes}
-use Rattle.pair_model.specs.Unit.{State, refused, expectedSide, readsFile, leastOutput, unfitDeal, stepConditions, stepNumber, takeDeal, takeOpen, takeMask, advance, step}
-use Rattle.numbers.proofs.Numbers.{equal, at-least, first-none, first-end}
+use Rattle.pair_model.specs.Frame.{Parameters, parameters, dealKind, maskKind, header, frame, kindOf, sessionOf, bodyOf, bodyBytes, frameBytes}
+use Rattle.pair_model.specs.Header.{kindRead}
+use Rattle.pair_model.specs.Unit.{State, refused, expectedSide, readsFile, leastOutput, lengthConditions, headerConditions, contentConditions, stepConditions, stepNumber, takeDeal, takeOpen, takeMask, advance, step}
+use Rattle.numbers.proofs.Numbers.{equal, at-least, is-equal, is-at-least, first-none, first-end, none-before}
+use Rattle.pair_model.proofs.Theorem.HeaderLaws.{headerRead, read-whole, whole-read}
 
 -- the four bytes of a session read back
 pub session-back : (s : ℕ) → s < 2 ^ 32 → s % 256 + 256 * (s / 256 % 256) + 65536 * (s / 65536 % 256) + 16777216 * (s / 16777216 % 256) ≡ s
@@ -54,23 +56,57 @@ module _ (S : Scheme) (t : Parameters) (kind : ℕ) (body file : List ℕ) (outp
   expected = frame kind (parameters (expectedSide kind (t .side)) (t .session)) body
 
   -- condition by condition
-  pub accepts-expected : t .session < 2 ^ 32 → leastOutput S ≤ outputLength → (ltb kind dealKind || ltb maskKind kind) ≡ false
-      → length body ≡ bodyBytes S kind
-      → (readsFile S expected && not (eqb (length file) (S .fileBytes))) ≡ false
-      → first (onlyIf (readsFile S expected) (S .faults file) ++ onlyIf (eqb kind dealKind) (10 when unfitDeal S expected ∷ [])) ≡ 0
+  pub accepts-expected : t .session < 2 ^ 32 → leastOutput S ≤ outputLength → dealKind ≤ kind → kind ≤ maskKind → length body ≡ bodyBytes S kind
+      → (readsFile S expected && not (eqb (length file) (S .fileBytes))) ≡ false → first (contentConditions S expected file) ≡ 0
       → stepNumber S t kind expected file outputLength ≡ 0
   unfolding stepConditions frame header first
-  accepts-expected hs ho hk hl hf last =
-      (λ i. first
-      (1 when at-least outputLength (leastOutput S) ho i
-      ∷ 1 when hf i
-      ∷ 3 when (_||_) (at-least (length expected) headerBytes (omega arith) i) (hk i)
-      ∷ 4 when not (equal (length expected) (frameBytes S kind) (omega arith) i)
-      ∷ 5 when not (equal (sessionOf expected) (t .session) (session-back (t .session) hs) i)
-      ∷ 6 when not (equal (expectedSide kind (t .side)) (expectedSide kind (t .side)) refl i)
-      ∷ 7 when not (equal kind kind refl i)
-      ∷ (onlyIf (readsFile S expected) (S .faults file) ++ onlyIf (eqb kind dealKind) (10 when unfitDeal S expected ∷ []))))
-      ∙ last
+  accepts-expected hs ho low high hl hf last =
+      rw (
+        at-least outputLength (leastOutput S) ho,
+        hf,
+        read-whole S dealKind maskKind expected (record { low = low; high = high; long = omega arith }),
+        equal (sessionOf expected) (t .session) (session-back (t .session) hs),
+        equal (expectedSide kind (t .side)) (expectedSide kind (t .side)) refl,
+        equal kind kind refl,
+      )
+      last
+
+-- ---- a frame that is accepted
+
+module _ (S : Scheme) (t : Parameters) (stage : ℕ) (f file : List ℕ) (outputLength : ℕ) where
+  -- one of the kind that is waited for, with all lengths as stated
+  pub record Fits : Type 0 where
+    pub frame-length : length f ≡ frameBytes S stage
+    pub room : leastOutput S ≤ outputLength
+    pub low : dealKind ≤ stage
+    pub high : stage ≤ maskKind
+    pub file-length : stage ≡ maskKind → length file ≡ S .fileBytes
+
+  -- a mask frame has the file read
+  reads-mask : kindOf f ≡ maskKind → readsFile S f ≡ true
+  unfolding readsFile
+  reads-mask e = rw e (pick (S .productReads))
+    where
+      pick : (b : Bool) → cond b true true ≡ true
+      pick true = refl
+      pick false = refl
+
+  pub fits : stepNumber S t stage f file outputLength ≡ 0 → Fits
+  unfolding stepConditions
+  fits e =
+      let n =
+      none-before (lengthConditions S f file outputLength ++ headerConditions S t stage f) (contentConditions S f file)
+      (lit< tt, (lit< tt, (lit< tt, (lit< tt, (lit< tt, (lit< tt, (lit< tt, tt))))))) e in
+      let h = n .1 .1 in
+      let w = whole-read S dealKind maskKind f (h .0) (h .1 .0) in
+      let k : kindOf f ≡ stage = ap kindRead (sym (read-whole S dealKind maskKind f w)) ∙ is-equal (kindRead (headerRead S dealKind maskKind f)) stage (h .1 .1 .1 .1 .0) in
+      record {
+        frame-length = w .long ∙ ap (frameBytes S) k;
+        room = is-at-least outputLength (leastOutput S) (n .0);
+        low = rw k at (w .low);
+        high = rw k at (w .high);
+        file-length = λ m. is-equal (length file) (S .fileBytes) (ap (λ (b : Bool). b && not (eqb (length file) (S .fileBytes))) (sym (reads-mask (k ∙ m))) ∙ n .1 .0);
+      }
 
 -- ---- what a step does, by its number
 

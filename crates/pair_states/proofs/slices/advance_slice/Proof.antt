@@ -9,7 +9,7 @@ use Rattle.pair_model.specs.Base.{base}
 use Rattle.pair_model.specs.Frame.{parameters, dealKind, kindOf, sideOf, sessionOf, frameBytes, bodyOf}
 use Rattle.pair_model.specs.Unit.{State, Stepped, takeDeal, advance, stepNumber}
 use Rattle.pair_model.specs.StateSlice.{encodeState, decodeState}
-use Rattle.pair_model.proofs.Internal.StepNumbers.{fits}
+use Rattle.pair_model.proofs.Theorem.StepLaws.{fits}
 use Rattle.pair_model.proofs.Internal.Lengths.{deal-length}
 use Rattle.pair_model.proofs.Internal.Advances.{advance-deal}
 use Rattle.pair_units.specs.declared.state.UnitState.{UnitState}

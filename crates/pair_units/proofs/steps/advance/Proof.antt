@@ -7,7 +7,7 @@ use Rattle.numbers.specs.Number.{atFront}
 use Rattle.pair_model.specs.Base.{base}
 use Rattle.pair_model.specs.Frame.{parameters, frameBytes, bodyOf}
 use Rattle.pair_model.specs.Unit.{Stepped}
-use Rattle.pair_model.proofs.Internal.StepNumbers.{fits}
+use Rattle.pair_model.proofs.Theorem.StepLaws.{fits}
 use Rattle.pair_model.proofs.Internal.Lengths.{deal-length, open-length, share-length}
 use Rattle.pair_model.proofs.Internal.Advances.{advance-deal, advance-open, advance-mask}
 use Rattle.pair_units.specs.Units.{stateOf, unitOf}
