@@ -2,7 +2,10 @@
 use Prim.Native.Nat.{ℕ, _<_}
 use mathlib.Core.Path.{_≡_}
 use mathlib.Core.List.{List, [], _∷_}
+use mathlib.Core.Bool.{true}
 use lib.ListN.{getD}
+use Rattle.numbers.specs.Number.{_when_, first}
+use Rattle.numbers.specs.Lowest.{Lowest}
 use Rattle.pair_model.specs.Scheme.{Side, other}
 use Rattle.pair_model.specs.Tape.{Accepted}
 use Rattle.pair_model.specs.Base.{base}
@@ -32,7 +35,9 @@ pub record HidesShare (P : Protocol) (fixed : Side) (a b : Inputs) : Type 0 wher
 pub record Evidence : Type 0 where
   -- the definitions say what document 01 says
   pub examples : TwelveExamples
+  -- each call returns the lowest number, which the first of a list need not be
   pub lowest : LowestNumbers
+  pub falling : ¬ Lowest (9 when true ∷ 8 when true ∷ []) (first (9 when true ∷ 8 when true ∷ []))
   -- there are runs, and runs to compare them with
   pub sample : SampleCompared
   pub selfComparable : (fixed : Side) (run : Run) (es : List Entry) → let P = protocol base in

@@ -7,7 +7,9 @@ ghost use Rattle.numbers.specs.Number.{output, reported};
 ghost use Rattle.matrix_model.specs.File.{checkNumber, readNumber, writeNumber, readOutput, writeOutput};
 ghost use Rattle.pair_model.specs.Base.{base};
 ghost use Rattle.pair_model.specs.Sampler.{sampled, used, sampleNumber};
-ghost use Rattle.pair_model.specs.Dealer.{dealt, dealNumber, dealSourceNumber};
+ghost use Rattle.pair_model.specs.Dealer.{dealt, dealNumber, dealSourceNumber, TakesAccepted};
+ghost use Rattle.pair_model.specs.Run.{protocol};
+ghost use Rattle.pair_model.specs.Theorem.{Privacy};
 ghost use Rattle.pair_model.specs.Evaluator.{code, evaluateNumber};
 ghost use Rattle.pair_model.specs.Join.{joinNumber, joined};
 ghost use Rattle.pair_model.specs.WholeRun.{runNumber, runCode};
@@ -76,6 +78,8 @@ pub extern "C" fn pair_sample(source: &[u8], out: &mut [u8], count: &mut u64) ->
 pub extern "C" fn pair_deal(session: u32, tape: &[u8], out: &mut [u8]) -> u32
     ensures result { λ r. ⌜ r ≡ dealNumber base (now (tape .entry)) (length (now (out .entry))) ⌝ }
     ensures output { λ r. ⌜ now (out .exit) ≡ output r (dealt base session [] (now (tape .entry))) (now (out .entry)) ⌝ }
+    ensures accepted { λ _. ⌜ TakesAccepted base ⌝ }
+    ensures privacy { λ _. ⌜ Privacy (protocol base) ⌝ }
 {
     deal(session, tape, out)
 }
@@ -93,6 +97,7 @@ pub extern "C" fn pair_deal_source(
     ensures output { λ r. ⌜
         now (out .exit) ≡ output r (dealt base session [] (sampled base (now (source .entry)))) (now (out .entry))
         ⌝ }
+    ensures privacy { λ _. ⌜ Privacy (protocol base) ⌝ }
 {
     let d = deal_source(session, source, out);
     *count = d.used;

@@ -1,4 +1,5 @@
 -- All of the evidence holds.
+use Rattle.numbers.proofs.Lowest.{falling-first}
 use Rattle.pair_model.specs.Run.{protocol, start}
 use Rattle.pair_model.specs.Base.{base}
 use Rattle.pair_model.specs.Theorem.{Correctness, Privacy, ThreeFrames}
@@ -18,6 +19,7 @@ evidence =
     record {
       examples = twelve-examples;
       lowest = lowest-numbers;
+      falling = falling-first;
       sample = sample-compared;
       selfComparable = λ fixed run es. self-comparable (protocol base) fixed run (start (protocol base) run) es;
       dealer = deal-accepted base;
