@@ -1,6 +1,6 @@
 -- The matrix of the paper's sample is fit.
 use Prim.Native.Nat.{ℕ, _+_, _*_, _/_, _%_, _<_}
-use mathlib.Core.Path.{_≡_, refl, sym, ap, ap₂, _∙_, subst}
+use mathlib.Core.Path.{_≡_, refl, ap, ap₂, _∙_, subst}
 use mathlib.Core.List.{List}
 use mathlib.Core.Bool.{Bool, true, false, not, cond}
 use native.Mathlib.Omega.{arith}
@@ -11,7 +11,7 @@ use lib.Seq.{getD-drop}
 use Rattle.linear_model.specs.Bits.{bitAt, bit}
 use Rattle.linear_model.specs.Tables.{tabulate, every}
 use Rattle.linear_model.specs.Trits.{trit, packTrits, fitTrit, fitTrits, zeroTrit, zeroTrits}
-use Rattle.linear_model.proofs.Tables.{length-tabulate, getD-tabulate, every-of, every-at}
+use Rattle.linear_model.proofs.Tables.{length-tabulate, getD-tabulate, every-at}
 use Rattle.linear_model.proofs.Vectors.{trit-pack}
 use Rattle.numbers.proofs.Numbers.{is-true, first-zero}
 use Rattle.matrix_model.specs.File.{matrixB, fitRow, nonzeroRow, badTritRows, zeroRowRows, rowFaults, Survives}

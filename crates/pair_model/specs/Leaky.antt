@@ -8,9 +8,9 @@ use Rattle.linear_model.specs.Products.{circulantProduct}
 use Rattle.pair_model.specs.Scheme.{Scheme, Side, side0, side1, other, field, concat}
 use Rattle.pair_model.specs.Tape.{K̃, x̃, w̃, r0, dealLayout}
 use Rattle.pair_model.specs.Frame.{dealKind, openKind, maskKind, frame, kindOf, bodyOf, openLayout}
-use Rattle.pair_model.specs.Unit.{State, state, Beginning, Stepped, refused, K̂, x̂, withDeal, withMask, addIfSide0, stepNumber, takeDeal, takeOpen, takeMask, step}
+use Rattle.pair_model.specs.Unit.{State, state, Stepped, refused, K̂, x̂, withDeal, withMask, addIfSide0, stepNumber, takeDeal, takeOpen, takeMask, step}
 use Rattle.pair_model.specs.Dealer.{dealFrame}
-use Rattle.pair_model.specs.Run.{Protocol, protocol, Inputs}
+use Rattle.pair_model.specs.Run.{Protocol, protocol}
 
 -- a small scheme, in which they are refuted: one byte of key, label and inner vector, one digit, a file of one row
 abbrev pub small : Scheme

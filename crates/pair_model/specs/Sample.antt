@@ -9,7 +9,7 @@ use Rattle.pair_model.specs.Scheme.{Scheme, Side, side0, side1, other}
 use Rattle.pair_model.specs.Tape.{tapeBytes, Accepted}
 use Rattle.pair_model.specs.Unit.{leastOutput}
 use Rattle.pair_model.specs.Base.{base}
-use Rattle.pair_model.specs.Run.{Protocol, protocol, Inputs, WellFormed, Run, runOf, Entry, entry, asSent, stray, Lent, SharedEntry, same, differ, update, start, final, firstOf, Comparable}
+use Rattle.pair_model.specs.Run.{protocol, Inputs, WellFormed, Run, runOf, Entry, entry, asSent, stray, Lent, SharedEntry, same, differ, update, start, final, firstOf, Comparable}
 use Rattle.pair_model.specs.Theorem.{SameForFixed, Done, ownCode}
 
 -- what each side has

@@ -2,7 +2,7 @@
 use Prim.Native.Nat.{ℕ, _+_, _-_, _*_, _/_, _%_, _<_}
 use mathlib.Core.Path.{_≡_, refl, sym, ap, ap₂, _∙_}
 use mathlib.Core.Logic.{_≢_}
-use mathlib.Core.List.{List, [], _∷_, _++_}
+use mathlib.Core.List.{List, [], _∷_}
 use mathlib.Core.Bool.{Bool, true, false, cond}
 use native.Mathlib.Omega.{arith}
 use lib.Dec.{T, ltb, eqb, eqb→eq, lit<}
@@ -10,13 +10,12 @@ use lib.ListN.{length, getD, replicate, getD-replicate, length-append, length-re
 use lib.Seq.{getD-append-add}
 use Rattle.linear_model.specs.Bits.{Bytes, zeros, bit}
 use Rattle.linear_model.specs.Tables.{sum}
-use Rattle.linear_model.specs.Trits.{trit, innerShare}
+use Rattle.linear_model.specs.Trits.{trit}
 use Rattle.linear_model.specs.Products.{bitTerm, bitRow, bitProduct, circulant, circulantProduct}
 use Rattle.linear_model.proofs.Sums.{sum-one, term-zero}
 use Rattle.linear_model.proofs.Strings.{bit-lt, pack-ext, pack-bits}
 use Rattle.linear_model.proofs.Linearity.{bit-product, trit-inner}
 use Rattle.numbers.specs.Number.{_when_, first}
-use Rattle.matrix_model.specs.Block.{checkHolds}
 use Rattle.matrix_model.proofs.Examples.{example-11, example-12}
 use Rattle.source_model.specs.Pair.{pair}
 use Rattle.pair_model.specs.Sampler.{Drawn, found, draw, drawn, sampleConditions, sampleNumber, used}

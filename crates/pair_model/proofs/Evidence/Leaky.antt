@@ -9,11 +9,11 @@ use native.Mathlib.Nat.{le-refl}
 use lib.Dec.{eqb, lit<}
 use lib.ListN.{getD}
 use lib.Seq.{take-at}
-use Rattle.linear_model.specs.Bits.{zeros, addBits}
+use Rattle.linear_model.specs.Bits.{zeros}
 use Rattle.pair_model.specs.Scheme.{Scheme, Linear, Side, side0, side1, field, concat}
-use Rattle.pair_model.specs.Tape.{Accepted, K̃, x̃, dealLayout}
-use Rattle.pair_model.specs.Frame.{dealKind, openKind, maskKind, frame, header, bodyOf, openLayout}
-use Rattle.pair_model.specs.Unit.{State, K̂, x̂, withDeal, withMask, Stepped, refused, idle, addIfSide0, leastOutput, stepNumber, takeDeal, takeOpen, takeMask, advance, step}
+use Rattle.pair_model.specs.Tape.{Accepted}
+use Rattle.pair_model.specs.Frame.{dealKind, frame, header, bodyOf, openLayout}
+use Rattle.pair_model.specs.Unit.{Stepped, refused, idle, leastOutput, stepNumber, takeDeal, takeOpen, advance, step}
 use Rattle.pair_model.specs.Run.{Protocol, protocol, Inputs, WellFormed, Run, runOf, Configuration, asSent, Entry, entry, SharedEntry, same, update, start, frameOf, stepOf, next, DeliveredAsSent, firstOf, secondOf}
 use Rattle.pair_model.specs.View.{Event, View, events, view}
 use Rattle.pair_model.specs.Theorem.{SameForFixed, Hides, Privacy}

@@ -1,17 +1,17 @@
 -- A dealer that puts w̃ in the place of z0 does not have `Privacy`: with it and both masks unit 0 knows the inner vector w.
 use Prim.Native.Nat.{ℕ, suc, _≤_, _<_}
-use mathlib.Core.Path.{_≡_, refl, sym, ap, ap₂, _∙_, subst}
+use mathlib.Core.Path.{_≡_, refl, sym, ap, _∙_, subst}
 use mathlib.Core.Logic.{_≢_}
 use mathlib.Core.List.{List, [], _∷_}
 use native.Mathlib.Nat.{le-refl}
 use lib.Dec.{lit<, lit≤}
 use Rattle.linear_model.specs.Bits.{Bytes, addBits}
 use Rattle.linear_model.proofs.Strings.{add-twice}
-use Rattle.pair_model.specs.Scheme.{Scheme, Linear, Side, side0, side1, other, total, concat}
+use Rattle.pair_model.specs.Scheme.{Scheme, Linear, Side, side0, side1, other}
 use Rattle.pair_model.specs.Tape.{Accepted, w̃, z0, z}
 use Rattle.pair_model.specs.Frame.{frame, header, bodyOf}
 use Rattle.pair_model.specs.Unit.{Stepped, leastOutput}
-use Rattle.pair_model.specs.Run.{Protocol, protocol, Inputs, WellFormed, Run, runOf, Configuration, asSent, SharedEntry, same, update, start, frameOf, stepOf, next, DeliveredAsSent, firstOf, secondOf, Comparable}
+use Rattle.pair_model.specs.Run.{Protocol, protocol, Inputs, WellFormed, Run, runOf, Configuration, asSent, SharedEntry, same, update, start, frameOf, stepOf, next, DeliveredAsSent, firstOf, Comparable}
 use Rattle.pair_model.specs.View.{View, events, view}
 use Rattle.pair_model.specs.Theorem.{SameForFixed, Hides, Privacy}
 use Rattle.pair_model.specs.Leaky.{withInnerMask, innerMaskDealt}

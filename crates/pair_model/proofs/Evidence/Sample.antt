@@ -2,7 +2,7 @@
 use Prim.Native.Nat.{ℕ, zero, suc, _+_, _*_, _%_, _<_}
 use mathlib.Core.Path.{_≡_, refl, sym, ap, ap₂, _∙_}
 use mathlib.Core.Logic.{_≢_}
-use mathlib.Core.List.{List, [], _∷_}
+use mathlib.Core.List.{List, _∷_}
 use mathlib.Core.Bool.{Bool, true, false, cond, false≢true}
 use native.Mathlib.Omega.{arith}
 use borrow.Author.Tests.{eq-eqb, ne-eqb}
@@ -24,7 +24,7 @@ use Rattle.pair_model.specs.Evaluator.{codeOf, code}
 use Rattle.pair_model.specs.Base.{base}
 use Rattle.pair_model.specs.Run.{Inputs, WellFormed, runOf, protocol, sentCount, firstOf}
 use Rattle.pair_model.specs.Theorem.{SameForFixed, ownCode}
-use Rattle.pair_model.specs.Sample.{ofSides, sampleInputs, changed, sampleRun, withStrays, SampleCompared}
+use Rattle.pair_model.specs.Sample.{sampleInputs, changed, sampleRun, withStrays, SampleCompared}
 use Rattle.pair_model.proofs.Theorem.Main.{base-linear}
 use Rattle.pair_model.proofs.Theorem.Correct.{correct}
 use Rattle.pair_model.proofs.Evidence.Strays.{with-strays}

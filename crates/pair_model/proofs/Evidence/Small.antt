@@ -3,7 +3,6 @@ use Prim.Native.Nat.{ℕ, zero, suc, _<_}
 use mathlib.Core.Path.{_≡_, refl, ap}
 use mathlib.Core.Logic.{_≢_}
 use native.Mathlib.Omega.{arith}
-use mathlib.Core.Bool.{false}
 use mathlib.Core.List.{List, [], _∷_}
 use lib.Dec.{lit<}
 use lib.ListN.{getD}
@@ -13,7 +12,7 @@ use Rattle.linear_model.specs.Trits.{trit, fitTrits}
 use Rattle.linear_model.proofs.Strings.{bytes-zeros}
 use Rattle.linear_model.proofs.Linearity.{circulant-bilinear}
 use Rattle.numbers.specs.Number.{first}
-use Rattle.pair_model.specs.Scheme.{Scheme, Linear, Side, side0, side1, fileNumber, field}
+use Rattle.pair_model.specs.Scheme.{Linear, Side, side0, side1, fileNumber, field}
 use Rattle.pair_model.specs.Tape.{r0, Accepted}
 use Rattle.pair_model.specs.Run.{Inputs, WellFormed}
 use Rattle.pair_model.specs.Sample.{ofSides}

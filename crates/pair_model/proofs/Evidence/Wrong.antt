@@ -1,7 +1,7 @@
 -- Protocols with one wrong part do not satisfy the whole demand.
 use Prim.Native.Nat.{ℕ}
 use mathlib.Core.Path.{_≡_, refl, sym, ap, _∙_, subst}
-use mathlib.Core.List.{List, [], _∷_}
+use mathlib.Core.List.{[], _∷_}
 use native.Mathlib.Omega.{arith}
 use native.Mathlib.Nat.{le-refl}
 use lib.Dec.{lit<, lit≤}
@@ -10,11 +10,11 @@ use Rattle.linear_model.specs.Tables.{tabulate, sum, every}
 use Rattle.linear_model.specs.Trits.{trit, fitTrits}
 use Rattle.linear_model.specs.Products.{bitProduct}
 use Rattle.numbers.specs.Number.{first, onlyIf}
-use Rattle.pair_model.specs.Scheme.{Scheme, Side, side0, side1, field, concat}
-use Rattle.pair_model.specs.Frame.{parameters, openKind, frame, header}
+use Rattle.pair_model.specs.Scheme.{side0, field}
+use Rattle.pair_model.specs.Frame.{parameters, openKind, frame}
 use Rattle.pair_model.specs.Header.{readHeader}
 use Rattle.pair_model.specs.Unit.{State, state, nothing, leastOutput, beginConditions, begin, readsFile, stepConditions, takeDeal, step}
-use Rattle.pair_model.specs.Run.{Inputs, WellFormed, Run, runOf, Lent, start, DeliveredAsSent}
+use Rattle.pair_model.specs.Run.{Inputs, WellFormed, runOf, Lent, start, DeliveredAsSent}
 use Rattle.pair_model.specs.View.{View, events, view}
 use Rattle.pair_model.specs.Theorem.{SameForFixed, Demand3}
 use Rattle.pair_model.specs.Leaky.{small, bareKey, withoutZ, innerMaskDealt, otherKeyShown, refusesAll, dealAgain, secondDeal}
