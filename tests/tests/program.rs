@@ -10,6 +10,7 @@ use service_pair_tests::samples::{
     chosen_faults, damage_file, fit_inputs, set_both_bits, FAULT_CHOICES,
 };
 use std::env;
+use std::fs::OpenOptions;
 use std::io::{Read, Write};
 use std::path::PathBuf;
 use std::process::{Child, ChildStdin, Command, Stdio};
@@ -122,6 +123,18 @@ fn other_lengths_print_result_1() {
     report("program: lengths", lengths.len());
 }
 
+/// The first byte too many is read, so that a fit input before it is not taken.
+#[test]
+fn a_byte_more_prints_result_1() {
+    let mut random = Random::for_test("program byte more");
+    let mut input = fit_inputs(&mut random).bytes();
+    assert!(compare(&input).starts_with("result 0\n"));
+    input.push(0);
+    assert_eq!(input.len(), 6_529);
+    assert_eq!(compare(&input), "result 1\n");
+    report("program: inputs with a byte more", 1);
+}
+
 /// Input that comes in pieces, as from a pipe or a terminal.
 #[test]
 fn input_may_come_in_pieces() {
@@ -158,4 +171,26 @@ fn endless_input_prints_result_1() {
     });
     assert_eq!(printed, "result 1\n");
     report("program: endless inputs", 1);
+}
+
+/// What the program says on standard error of a fit input, with this standard
+/// output.
+fn errors_with(stdout: Stdio) -> String {
+    let mut random = Random::for_test("program errors");
+    let mut command = Command::new(program_path());
+    command.stdin(Stdio::piped()).stdout(stdout).stderr(Stdio::piped());
+    let mut child = command.spawn().expect("the program starts");
+    let stdin = child.stdin.take().expect("standard input is piped");
+    whole(fit_inputs(&mut random).bytes())(stdin);
+    let ended = child.wait_with_output().expect("the program ends");
+    String::from_utf8(ended.stderr).expect("the program says text")
+}
+
+/// A device that takes no byte: a message says so, and no other time.
+#[test]
+fn a_full_device_gives_a_message() {
+    let full = OpenOptions::new().write(true).open("/dev/full").expect("Linux has this device");
+    assert_eq!(errors_with(full.into()), "service_pair: standard output cannot be written\n");
+    assert_eq!(errors_with(Stdio::piped()), "");
+    report("program: standard outputs", 2);
 }
