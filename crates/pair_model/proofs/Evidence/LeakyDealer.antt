@@ -11,20 +11,22 @@ use Rattle.pair_model.specs.Scheme.{Scheme, Linear, Side, side0, side1, 
 use Rattle.pair_model.specs.Tape.{Accepted, w̃, z0, z}
 use Rattle.pair_model.specs.Frame.{frame, header, bodyOf}
 use Rattle.pair_model.specs.Unit.{Stepped, leastOutput}
-use Rattle.pair_model.specs.Run.{Protocol, protocol, Inputs, WellFormed, Run, runOf, Configuration, asSent, SharedEntry, same, update, start, frameOf, stepOf, next, DeliveredAsSent, firstOf, Comparable}
+use Rattle.pair_model.specs.Run.{Protocol, protocol, Inputs, WellFormed, Run, runOf, Configuration, asSent, Entry, update, start, frameOf, stepOf, next, DeliveredAsSent, ListOf}
 use Rattle.pair_model.specs.View.{View, events, view}
 use Rattle.pair_model.specs.Theorem.{SameForFixed, Hides, Privacy}
+use Rattle.pair_model.specs.Evidence.{shared}
 use Rattle.pair_model.specs.Leaky.{withInnerMask, innerMaskDealt}
 use Rattle.pair_model.proofs.Theorem.TapeParts.{Parts, Whole, tapeOf, accepted-of, partsOf, parts-tape, whole-parts}
 use Rattle.pair_model.proofs.Theorem.Pairing.{innerOf}
 use Rattle.pair_model.proofs.Theorem.MaskLaws.{mask, mask-sum}
 use Rattle.pair_model.proofs.Theorem.Stages.{incoming, unitAt}
 use Rattle.pair_model.proofs.Theorem.Configurations.{configurationAt, Ready, delivered-of, frame-is, step-sent, next-sent, start-at}
+use Rattle.pair_model.proofs.Evidence.Strays.{shared-comparable}
 use Rattle.pair_model.proofs.Evidence.Leaky.{sent, eventAt}
 
 -- five entries as sent: both deals, both open frames, and the mask frame for unit 0
-abbrev five : Scheme → List ℕ → List SharedEntry
-five S file = let e0 = same (sent S file side0) in let e1 = same (sent S file side1) in e0 ∷ e1 ∷ e0 ∷ e1 ∷ e0 ∷ []
+abbrev five : Scheme → List ℕ → List Entry
+five S file = let e0 = sent S file side0 in let e1 = sent S file side1 in e0 ∷ e1 ∷ e0 ∷ e1 ∷ e0 ∷ []
 
 module _ (S : Scheme) (L : Linear S) (a : Inputs) (tape : List ℕ) (well : WellFormed S a) (h : Accepted S tape) where
   abbrev P : Protocol
@@ -114,29 +116,21 @@ module _ (S : Scheme) (L : Linear S) (a : Inputs) (tape : List ℕ) (well : Well
     frame-seen : frameOf P R c₄ side0 asSent ≡ incoming S a τ side0 2
     frame-seen = ap (λ (c : Configuration). frameOf P R c side0 asSent) at₄ ∙ frame-is S a τ p₄ side0 (lit< tt) (lit≤ tt)
 
-    -- ---- its list can be compared with any run
+    -- ---- the five entries are a list of the run
 
-    module _ (R₂ : Run) where
-      record From (p : Side → ℕ) (es : List SharedEntry) : Type 0 where
-        from : (c : Configuration) → Comparable P side0 R R₂ (C p) c es
+    record From (p : Side → ℕ) (es : List Entry) : Type 0 where
+      list : ListOf P R (C p) es
 
-      on-sent : (p : Side → ℕ) (i : Side) (es : List SharedEntry) → p i < 3 → p i ≤ p (other i) → From (update i (suc (p i)) p) es
-          → From p (same (sent S file i) ∷ es)
-      on-sent p i es l m r =
-          record {
-            from = λ c. (
-              delivered p i l m,
-              subst (λ (d : Configuration). Comparable P side0 R R₂ d (next P R₂ c (sent S file i)) es) (sym (on-next p i l m)) (r .from (next P R₂ c (sent S file i))),
-            );
-          }
+    on-sent : (p : Side → ℕ) (i : Side) (es : List Entry) → p i < 3 → p i ≤ p (other i) → From (update i (suc (p i)) p) es → From p (sent S file i ∷ es)
+    on-sent p i es l m r = record { list = (delivered p i l m, subst (λ (c : Configuration). ListOf P R c es) (sym (on-next p i l m)) (r .list)) }
 
-      from-start : From (λ i. 0) (five S file)
-      from-start =
-          on-sent _ side0 _ (lit< tt) (lit≤ tt) (on-sent _ side1 _ (lit< tt) (lit≤ tt) (on-sent _ side0 _ (lit< tt) (lit≤ tt)
-          (on-sent _ side1 _ (lit< tt) (lit≤ tt) (on-sent _ side0 _ (lit< tt) (lit≤ tt) (record { from = λ c. tt })))))
+    from-start : From (λ i. 0) (five S file)
+    from-start =
+        on-sent _ side0 _ (lit< tt) (lit≤ tt) (on-sent _ side1 _ (lit< tt) (lit≤ tt) (on-sent _ side0 _ (lit< tt) (lit≤ tt)
+        (on-sent _ side1 _ (lit< tt) (lit≤ tt) (on-sent _ side0 _ (lit< tt) (lit≤ tt) (record { list = tt })))))
 
-      comparable : Comparable P side0 R R₂ (start P R) (start P R₂) (five S file)
-      comparable = subst (λ (d : Configuration). Comparable P side0 R R₂ d (start P R₂) (five S file)) (sym (start-at S a well τ)) (from-start .from (start P R₂))
+    five-list : ListOf P R (start P R) (five S file)
+    five-list = subst (λ (c : Configuration). ListOf P R c (five S file)) (sym (start-at S a well τ)) (from-start .list)
 
   -- ---- so it knows w
 
@@ -147,7 +141,7 @@ module _ (S : Scheme) (L : Linear S) (a : Inputs) (tape : List ℕ) (well : Well
       addBits (S .innerBytes) (addBits (S .innerBytes) (s .ownMask) (bodyOf (eventAt 2 v .frame))) (s .z)
 
   knows : Bytes (S .innerBytes) (innerOf S a) → (file : List ℕ) → file ≡ a .file
-      → known (view P side0 R (firstOf side0 (five S file))) ≡ innerOf S a
+      → known (view P side0 R (five S file)) ≡ innerOf S a
   unfolding view events unitAt incoming frame header z
   knows b file e =
       (λ j.
@@ -163,7 +157,8 @@ pub inner-mask-leaks : (S : Scheme) → Linear S → (a b : Inputs) → WellForm
     → (tape : List ℕ) → Accepted S tape → ¬ Privacy (innerMaskDealt S)
 inner-mask-leaks S L a b well₁ well₂ g bytes₁ bytes₂ differ tape h privacy =
     differ (sym (knows S L a tape well₁ h bytes₁ (a .file) refl)
-    ∙ ap (known S L a tape well₁ h) (H .sameView tape h (five S (a .file)) (comparable S L a tape well₁ h (a .file) refl (runOf b u)) .views)
+    ∙ ap (known S L a tape well₁ h) (H .sameView tape h (shared (five S (a .file)))
+    (shared-comparable (innerMaskDealt S) side0 (runOf a tape) (runOf b u) (five S (a .file)) (five-list S L a tape well₁ h (a .file) refl)) .views)
     ∙ knows S L b u well₂ (H .pairing .forth-holds tape h) bytes₂ (a .file) (g .file))
   where
     H : Hides (innerMaskDealt S) side0 a b

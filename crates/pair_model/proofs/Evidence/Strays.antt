@@ -20,13 +20,18 @@ use Rattle.numbers.proofs.Numbers.{is-true, at-least, first-holds}
 use Rattle.pair_model.proofs.Theorem.StepLaws.{step-result}
 use Rattle.pair_model.proofs.Theorem.Configurations.{configurationAt, Ready, delivered-of, next-sent, next-stray, start-at}
 
--- ---- a list of a run, compared with itself
+-- ---- a list of a run, shared with any other
 
--- nothing more is asked than that it is a list of the run
-pub self-comparable : (P : Protocol) (fixed : Side) (run : Run) (c : Configuration) (es : List Entry)
-    → ListOf P run c es → Comparable P fixed run run c c (shared es)
-self-comparable P fixed run c [] v = tt
-self-comparable P fixed run c (e ∷ es) v = (v .0, self-comparable P fixed run (next P run c e) es (v .1))
+-- nothing more is asked of shared entries than that they are a list of the first run
+shared-from : (P : Protocol) (fixed : Side) (run₁ run₂ : Run) (c₁ c₂ : Configuration) (es : List Entry)
+    → ListOf P run₁ c₁ es → Comparable P fixed run₁ run₂ c₁ c₂ (shared es)
+shared-from P fixed run₁ run₂ c₁ c₂ [] v = tt
+shared-from P fixed run₁ run₂ c₁ c₂ (e ∷ es) v = (v .0, shared-from P fixed run₁ run₂ (next P run₁ c₁ e) (next P run₂ c₂ e) es (v .1))
+
+-- from the start
+pub shared-comparable : (P : Protocol) (fixed : Side) (run₁ run₂ : Run) (es : List Entry)
+    → ListOf P run₁ (start P run₁) es → Comparable P fixed run₁ run₂ (start P run₁) (start P run₂) (shared es)
+shared-comparable P fixed run₁ run₂ es v = shared-from P fixed run₁ run₂ (start P run₁) (start P run₂) es v
 
 -- ---- two stray calls that every unit refuses
 

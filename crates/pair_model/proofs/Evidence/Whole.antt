@@ -1,6 +1,6 @@
 -- All of the evidence holds.
 use Rattle.numbers.proofs.Lowest.{falling-first}
-use Rattle.pair_model.specs.Run.{protocol, start}
+use Rattle.pair_model.specs.Run.{protocol}
 use Rattle.pair_model.specs.Base.{base}
 use Rattle.pair_model.specs.Theorem.{Correctness, Privacy, ThreeFrames}
 use Rattle.pair_model.specs.Evidence.{Evidence}
@@ -8,7 +8,7 @@ use Rattle.pair_model.proofs.Theorem.Main.{private, base-linear, base-d
 use Rattle.pair_model.proofs.Evidence.Lowest.{lowest-numbers}
 use Rattle.pair_model.proofs.Evidence.Examples.{twelve-examples}
 use Rattle.pair_model.proofs.Evidence.Sample.{sample-compared}
-use Rattle.pair_model.proofs.Evidence.Strays.{self-comparable}
+use Rattle.pair_model.proofs.Evidence.Strays.{shared-comparable}
 use Rattle.pair_model.proofs.Evidence.Dealing.{deal-accepted, sampled-accepted}
 use Rattle.pair_model.proofs.Evidence.OtherShare.{other-share-frame}
 use Rattle.pair_model.proofs.Evidence.Wrong.{bare-key-fails, without-z-fails, inner-mask-fails, other-key-fails, refuses-all-fails, second-deal-fails}
@@ -21,7 +21,7 @@ evidence =
       lowest = lowest-numbers;
       falling = falling-first;
       sample = sample-compared;
-      selfComparable = λ fixed run es. self-comparable (protocol base) fixed run (start (protocol base) run) es;
+      selfComparable = λ fixed run es. shared-comparable (protocol base) fixed run run es;
       dealer = deal-accepted base;
       sampler = sampled-accepted base;
       share =

@@ -16,7 +16,7 @@ start-requires c κs =
     let s = d .before .before .before .before in
     let input = s .args .input .now in
     let small : (i : ℕ) → _ = λ i. d .before .before .before .shared-slice-known .given i .fits in
-    rw (key-0 input, label-0 input, input-deal-0 input (codeBytes base) (s .pre) small _ _ (d .deal .ensures .0) (d .deal .ensures .1), file-is input) (deal-accepted input (codeBytes base) (s .pre) small side0)
+    rw (key-0 input, label-0 input, input-deal-0 input (codeBytes base) (s .pre) small _ _ (d .deal .ensures .0) (d .deal .ensures .1 .0), file-is input) (deal-accepted input (codeBytes base) (s .pre) small side0)
 
 start-requires-2 : tie.Need-start-requires-2
 start-requires-2 c κs =
@@ -24,7 +24,7 @@ start-requires-2 c κs =
     let s = d .before .before .before .before in
     let input = s .args .input .now in
     let small : (i : ℕ) → _ = λ i. d .before .before .before .shared-slice-known .given i .fits in
-    rw (key-1 input, label-1 input, input-deal-1 input (codeBytes base) (s .pre) small _ _ (d .deal .ensures .0) (d .deal .ensures .1), file-is input) (deal-accepted input (codeBytes base) (s .pre) small side1)
+    rw (key-1 input, label-1 input, input-deal-1 input (codeBytes base) (s .pre) small _ _ (d .deal .ensures .0) (d .deal .ensures .1 .0), file-is input) (deal-accepted input (codeBytes base) (s .pre) small side1)
 
 returns : tie.Need-returns
 returns c =
@@ -32,8 +32,8 @@ returns c =
     let s = d .before .before .before .before in
     let input = s .args .input .now in
     let small : (i : ℕ) → _ = λ i. d .before .before .before .shared-slice-known .given i .fits in
-    let f0 = input-deal-0 input (codeBytes base) (s .pre) small _ _ (d .deal .ensures .0) (d .deal .ensures .1) in
-    let f1 = input-deal-1 input (codeBytes base) (s .pre) small _ _ (d .deal .ensures .0) (d .deal .ensures .1) in (
+    let f0 = input-deal-0 input (codeBytes base) (s .pre) small _ _ (d .deal .ensures .0) (d .deal .ensures .1 .0) in
+    let f1 = input-deal-1 input (codeBytes base) (s .pre) small _ _ (d .deal .ensures .0) (d .deal .ensures .1 .0) in (
       sends-same (c .both .ensures .0) (rw (key-0 input, label-0 input, f0, file-is input) at (c .before .before .before .before .before .before .start .ensures)),
       sends-same (c .both .ensures .1) (rw (key-1 input, label-1 input, f1, file-is input) at (c .before .start2 .ensures)),
     )

@@ -11,10 +11,10 @@ use Rattle.pair_whole.proofs.run.start.Tie as tie
 send-requires : tie.Need-send-requires
 send-requires c κs =
     let s = c .before .before .before .before .before .before in
-    ap (λ (u : UnitState). stepNumber base (stateOf u .parameters) (stateOf u .stage) (s .args .f .now) (s .args .file .now) (leastOutput base)) (c .before .begin .ensures .1) ∙ s .pre
+    ap (λ (u : UnitState). stepNumber base (stateOf u .parameters) (stateOf u .stage) (s .args .f .now) (s .args .file .now) (leastOutput base)) (c .before .begin .ensures .1 .0) ∙ s .pre
 
 returns : tie.Need-returns
-returns c = rw (c .before .before .begin .ensures .1) at (c .send .ensures)
+returns c = rw (c .before .before .begin .ensures .1 .0) at (c .send .ensures)
 
 pub start-spec : {M : Type 1} → statement M
 start-spec = tie.close (tie.spec (λ c κs. search needs) send-requires returns)

@@ -19,7 +19,7 @@ returns-2 c =
     let g = c .before .before .before .before .before in
     let b = begin-long base _ (g .before .if1 .left) _ _ _ _ in (
       g .begin .ensures .0 ∙ b .0,
-      (c .before .before .encode .ensures ∙ ap (λ (u : UnitState). encodeState (stateOf u)) (g .begin .ensures .1) ∙ b .1, decode-encode base),
+      (c .before .before .encode .ensures ∙ ap (λ (u : UnitState). encodeState (stateOf u)) (g .begin .ensures .1 .0) ∙ b .1, decode-encode base),
     )
 
 pub pair-begin-spec : {M : Type 1} → statement M
