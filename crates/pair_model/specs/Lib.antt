@@ -12,5 +12,6 @@ pub mod View
 pub mod Theorem
 pub mod Header
 pub mod StateSlice
+pub mod Calls
 pub mod WholeRun
 pub mod Internal
