@@ -100,8 +100,9 @@ uint32_t pair_deal_source(uint32_t session, const uint8_t *source, size_t source
                           uint64_t *used);
 
 /* Begins a unit of side 0 or 1 with its halves, and writes its state (exactly PAIR_STATE_BYTES): it waits
- * for its deal frame. Gives 0, 1 or 2. A refusal writes the idle state, all zero, which accepts no frame;
- * but a state slice of another length (1) is left as it was.
+ * for its deal frame. Gives 0, 1 or 2. A refusal writes the idle state, all zero, which accepts no frame,
+ * so that an old state does not go on under a host that overlooks the number; a host that wants to keep
+ * one lends another slice. Only a state slice of another length (1) is left as it was.
  *
  * A state is stage 1 byte (0 idle, 4 done, else the kind waited for), side 1, session 4 lowest first, key
  * half 32, label half 32, the deal 160, the unit's own mask 32. Nobody else writes it between two calls,

@@ -15,3 +15,4 @@ pub mod Joins
 pub mod Runs
 pub mod Rounds
 pub mod Encodings
+pub mod StateSizes

@@ -1,4 +1,5 @@
--- The theorem, in the order of its argument: tape, pairing, masks, a unit after so many frames, a run after a list; Main is the whole.
+-- The theorem, in the order of its argument: tape, pairing, masks, a unit after so many frames, a run after a list; Main is the whole,
+-- and Calls says that lists of C calls are such runs.
 pub mod Layouts
 pub mod TapeParts
 pub mod Pairing
@@ -12,3 +13,4 @@ pub mod Correct
 pub mod Private
 pub mod Counting
 pub mod Main
+pub mod Calls

@@ -12,6 +12,7 @@ pub mod Run
 pub mod View
 pub mod Theorem
 pub mod StateSlice
+pub mod Calls
 pub mod WholeRun
 pub mod Lowest
 pub mod Examples

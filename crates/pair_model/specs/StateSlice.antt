@@ -8,7 +8,7 @@ use Rattle.linear_model.specs.Bits.{Bytes}
 use Rattle.numbers.specs.Number.{Condition, _when_, first}
 use Rattle.pair_model.specs.Scheme.{Scheme, layoutBytes, field, concat}
 use Rattle.pair_model.specs.Frame.{parameters, frame, headerBytes, kindOf, sideOf, sessionOf, bodyOf}
-use Rattle.pair_model.specs.Unit.{State, state, Stepped, beginConditions, begin, stepConditions, step}
+use Rattle.pair_model.specs.Unit.{State, state, Stepped, begun, idle, beginConditions, beginNumber, stepConditions, step}
 
 -- a state laid out like a frame, with the stage for its kind and the secrets for its body
 unfoldable pub encodeState : State → List ℕ
@@ -31,8 +31,10 @@ module _ (S : Scheme) where
       state (parameters (sideOf s) (sessionOf s)) (kindOf s)
       (record { key = part 0; label = part 1; keyMask = part 2; labelMask = part 3; z = part 4; r = part 5; ownMask = part 6 })
 
-  -- a state that a slice can hold: strings of the stated lengths, and a session of 32 bits
+  -- a state that a slice can hold: stage and side of a byte, a session of 32 bits, and strings of the stated lengths
   pub record Sized (u : State) : Type 0 where
+    pub stage : u .stage < 256
+    pub side : u .parameters .side < 256
     pub session : u .parameters .session < 2 ^ 32
     pub key : Bytes (S .keyBytes) (u .secrets .key)
     pub label : Bytes (S .keyBytes) (u .secrets .label)
@@ -54,9 +56,11 @@ module _ (S : Scheme) where
   unfoldable pub pairBeginNumber : ℕ → List ℕ → List ℕ → List ℕ → ℕ
   pairBeginNumber side key label s = first (pairBeginConditions side key label s)
 
-  -- a refused beginning writes the idle state
+  -- a slice of another length stays as it was; one of its length gets the begun state, or the idle one where the beginning is refused
   unfoldable pub pairBeginState : ℕ → ℕ → List ℕ → List ℕ → List ℕ → List ℕ
-  pairBeginState side session key label s = cond (badState s) s (encodeState (begin S side session key label .next))
+  pairBeginState side session key label s =
+      cond (badState s) s
+      (cond (eqb (beginNumber S side key label) 0) (encodeState (begun S (parameters side session) key label)) (encodeState (idle S)))
 
   -- the step of the state in a slice
   abbrev pub sliceStep : List ℕ → List ℕ → List ℕ → ℕ → Stepped

@@ -1,4 +1,5 @@
-//! State slices that no beginning made: of other lengths, damaged or random.
+//! State slices of other lengths, damaged or random, and beginnings over slices
+//! in which a unit runs.
 
 use crate::interface;
 use crate::unit::{Lent, Run, Unit};
@@ -52,6 +53,49 @@ fn state_slices_of_other_lengths_are_refused() {
         assert_eq!(number, u32::from(length != STATE_BYTES), "length {length}, SEED={}", seed());
     }
     report("protocol: state slices of each length", STATE_BYTES + 301);
+}
+
+/// A beginning over a slice in which a unit runs: refused, it leaves the idle
+/// state, which takes no frame of the run; on a slice of another length it
+/// leaves every byte, and the unit goes on.
+#[test]
+fn refused_beginnings_over_running_units() {
+    let mut random = Random::for_test("refused beginnings");
+    let session = random.session();
+    let mut run = Run::start(fit_inputs(&mut random), session);
+    let half = random.bytes(33);
+    let (fit, short, long) = (&half[..32], &half[..31], &half[..]);
+    let refused =
+        [(2, fit, fit, 2), (u32::MAX, fit, fit, 2), (0, short, fit, 1), (1, fit, long, 1)];
+    for turn in 0..6 {
+        let side = turn % 2;
+        let lent = run.as_sent(&mut random, side).expect("the frame was sent");
+        let mut slice = Guarded::lend(&mut random, &run.units[side].bytes);
+        let idle = slice.after(&encode(&State::idle()));
+        let running = slice.clone();
+        for (other, key, label, number) in refused {
+            slice.clone_from(&running);
+            let found = interface::begin(other, session, key, label, slice.slice_mut());
+            assert_eq!(found, number, "pair_begin of side {other}, SEED={}", seed());
+            assert!(slice == idle, "a refused beginning leaves the idle state, SEED={}", seed());
+            assert_ne!(any_step(&mut random, slice.slice(), &lent), DONE, "SEED={}", seed());
+        }
+        for length in [0, STATE_BYTES - 1, STATE_BYTES + 1] {
+            let mut bytes = run.units[side].bytes.clone();
+            bytes.resize(length, 0);
+            let mut slice = Guarded::lend(&mut random, &bytes);
+            let before = slice.clone();
+            let found = interface::begin(0, session, fit, fit, slice.slice_mut());
+            assert_eq!(found, 1, "a state slice of {length} bytes, SEED={}", seed());
+            assert!(
+                slice == before,
+                "a state slice of {length} bytes was written, SEED={}",
+                seed()
+            );
+        }
+        assert_eq!(run.step(&mut random, side, &lent).number, DONE, "SEED={}", seed());
+    }
+    report("protocol: beginnings over running units", 6 * (refused.len() + 3));
 }
 
 /// A frame that suits a state, so that many are accepted, now and then spoiled.

@@ -1,16 +1,25 @@
 -- A state that is written reads back; and the calls over a slice by its length.
-use mathlib.Core.Path.{_≡_, sym, ap, _∙_}
+use mathlib.Core.Path.{_≡_, refl, sym, ap, _∙_}
 use mathlib.Core.List.{List, [], _∷_}
+use mathlib.Core.Bool.{Bool, true, false, cond}
 use Prim.Native.Nat.{ℕ}
 use borrow.Author.Tests.{eq-eqb, ne-eqb}
+use lib.Dec.{eqb}
 use lib.ListN.{length, getD}
 use Rattle.numbers.specs.Number.{first}
 use Rattle.pair_model.specs.Scheme.{Scheme, field, concat}
 use Rattle.pair_model.specs.Frame.{parameters, header, frame, bodyOf}
-use Rattle.pair_model.specs.Unit.{State, state, Stepped, begin, advance}
+use Rattle.pair_model.specs.Unit.{Secrets, State, state, Stepped, begun, idle, beginNumber, begin, advance}
 use Rattle.pair_model.specs.StateSlice.{secretsLayout, stateBytes, encodeState, decodeState, Sized, sliceStep, pairBeginNumber, pairBeginState, pairStepNumber, pairStepState, pairStepWritten}
-use Rattle.pair_model.proofs.Theorem.Layouts.{field-concat}
+use Rattle.pair_model.proofs.Theorem.Layouts.{Laid, field-concat}
 use Rattle.pair_model.proofs.Theorem.StepLaws.{session-back, numberFor, step-accepted, step-result, step-refused}
+
+-- the secrets in the order of a slice
+abbrev pub inSliceOrder : Secrets → List (List ℕ)
+inSliceOrder s = s .key ∷ s .label ∷ s .keyMask ∷ s .labelMask ∷ s .z ∷ s .r ∷ s .ownMask ∷ []
+
+pub laid-secrets : (S : Scheme) (u : State) → Sized S u → Laid (secretsLayout S) (inSliceOrder (u .secrets))
+laid-secrets S u h = (h .key, (h .label, (h .keyMask, (h .labelMask, (h .z, (h .r, (h .ownMask, tt)))))))
 
 pub decode-encode : (S : Scheme) (u : State) → Sized S u → decodeState S (encodeState u) ≡ u
 unfolding decodeState encodeState frame header
@@ -26,13 +35,8 @@ decode-encode S u h =
       ownMask = part 6 i;
     })
   where
-    fields : List (List ℕ)
-    fields = let s = u .secrets in s .key ∷ s .label ∷ s .keyMask ∷ s .labelMask ∷ s .z ∷ s .r ∷ s .ownMask ∷ []
-
-    part : (i : ℕ) → field (secretsLayout S) i (concat fields) ≡ getD fields i []
-    part =
-        field-concat (secretsLayout S) fields
-        (h .key, (h .label, (h .keyMask, (h .labelMask, (h .z, (h .r, (h .ownMask, tt)))))))
+    part : (i : ℕ) → field (secretsLayout S) i (concat (inSliceOrder (u .secrets))) ≡ getD (inSliceOrder (u .secrets)) i []
+    part = field-concat (secretsLayout S) (inSliceOrder (u .secrets)) (laid-secrets S u h)
 
 -- ---- a slice of another length
 
@@ -52,14 +56,19 @@ module _ (S : Scheme) (s : List ℕ) (h : length s ≡ stateBytes S) where
       → (begin S side session key label .result ≡ pairBeginNumber S side key label s)
       × (encodeState (begin S side session key label .next) ≡ pairBeginState S side session key label s)
   unfolding pairBeginNumber pairBeginState first begin
-  begin-long side session key label = (rw (eq-eqb (length s) (stateBytes S) h), rw (eq-eqb (length s) (stateBytes S) h))
+  begin-long side session key label = (rw (eq-eqb (length s) (stateBytes S) h), rw (eq-eqb (length s) (stateBytes S) h) (pick (eqb (beginNumber S side key label) 0)))
+    where
+      pick : (b : Bool) → encodeState (cond b (begun S (parameters side session) key label) (idle S))
+          ≡ cond b (encodeState (begun S (parameters side session) key label)) (encodeState (idle S))
+      pick true = refl
+      pick false = refl
 
   module _ (f file : List ℕ) (n : ℕ) where
-    by-number : sliceStep S s f file n .result ≡ pairStepNumber S s f file n
+    pub by-number : sliceStep S s f file n .result ≡ pairStepNumber S s f file n
     unfolding pairStepNumber first
     by-number = rw (eq-eqb (length s) (stateBytes S) h) (step-result S (decodeState S s) f file n)
 
-    by-written : sliceStep S s f file n .written ≡ pairStepWritten S s f file n
+    pub by-written : sliceStep S s f file n .written ≡ pairStepWritten S s f file n
     unfolding pairStepWritten
     by-written = rw (eq-eqb (length s) (stateBytes S) h)
 

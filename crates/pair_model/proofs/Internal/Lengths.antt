@@ -1,12 +1,9 @@
 -- How long the frames are that a step writes.
 use mathlib.Core.Path.{_≡_, sym, ap, _∙_}
 use mathlib.Core.List.{List, [], _∷_, _++_, append-nil}
-use mathlib.Core.Bool.{Bool, true, false, cond}
 use Prim.Native.Nat.{ℕ, _+_}
-use lib.Dec.{eqb}
 use lib.ListN.{length, length-append}
 use Rattle.linear_model.specs.Bits.{addBits}
-use Rattle.linear_model.specs.Products.{circulantProduct}
 use Rattle.linear_model.proofs.Strings.{bytes-add, bytes-append}
 use Rattle.linear_model.proofs.Linearity.{bytes-matrix}
 use Rattle.pair_model.specs.Scheme.{field, concat}
@@ -14,7 +11,8 @@ use Rattle.pair_model.specs.Base.{base}
 use Rattle.pair_model.specs.Tape.{dealLayout}
 use Rattle.pair_model.specs.Frame.{Parameters, openKind, maskKind, shareKind, header, frame, frameBytes}
 use Rattle.pair_model.specs.Evaluator.{codeOf}
-use Rattle.pair_model.specs.Unit.{State, maskOf, shareOf, takeDeal, takeOpen, takeMask}
+use Rattle.pair_model.specs.Unit.{State, shareOf, takeDeal, takeOpen, takeMask}
+use Rattle.pair_model.proofs.Theorem.MaskLaws.{bytes-mask-of}
 
 -- the length of a frame
 pub length-frame : (kind : ℕ) (t : Parameters) (body : List ℕ) → length (frame kind t body) ≡ 6 + length body
@@ -33,17 +31,9 @@ deal-length u body =
 
 -- ---- an open frame
 
-mask-length : (file : List ℕ) (side : ℕ) (K̂ x̂ K̃ x̃ z : List ℕ) → length (maskOf base file side K̂ x̂ K̃ x̃ z) ≡ 32
-unfolding maskOf
-mask-length file side K̂ x̂ K̃ x̃ z = pick (eqb side 0) (addBits 32 (circulantProduct 32 K̂ x̃) (circulantProduct 32 K̃ x̂)) z (circulantProduct 32 K̂ x̂)
-  where
-    pick : (b : Bool) (a c d : List ℕ) → length (cond b (addBits 32 (addBits 32 a c) d) (addBits 32 a c)) ≡ 32
-    pick true a c d = bytes-add 32 (addBits 32 a c) d .size
-    pick false a c d = bytes-add 32 a c .size
-
 pub open-length : (u : State) (body file : List ℕ) → frameBytes base maskKind ≡ length (takeOpen base u body file .written)
 unfolding takeOpen
-open-length u body file = sym (length-frame 3 _ _ ∙ ap (λ (n : ℕ). 6 + n) (mask-length file (u .parameters .side) _ _ (u .secrets .keyMask) (u .secrets .labelMask) (u .secrets .z)))
+open-length u body file = sym (length-frame 3 _ _ ∙ ap (λ (n : ℕ). 6 + n) (bytes-mask-of base file (u .parameters .side) _ _ (u .secrets .keyMask) (u .secrets .labelMask) (u .secrets .z) .size))
 
 -- ---- a mask frame
 

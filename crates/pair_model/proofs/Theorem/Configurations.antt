@@ -19,7 +19,7 @@ use Rattle.numbers.proofs.Numbers.{equal}
 use Rattle.pair_model.proofs.Theorem.StepLaws.{step-refused, step-result, numberFor}
 use Rattle.pair_model.proofs.Theorem.Stages.{parametersAt, incoming, outgoing, unitAt, accepted, accepts}
 
--- what is put where it stood changes nothing; what depends on a count by side changes with it
+-- what is put where it stood changes nothing; what depends on a value by side changes with it
 put-back : {A : Type 0} (i : Side) (f : Side → A) → update i (f i) f ≡ f
 put-back i f = λ j s. at i s j
   where
@@ -29,8 +29,8 @@ put-back i f = λ j s. at i s j
     at side1 side0 = refl
     at side1 side1 = refl
 
-put-count : {A : Type 0} (i : Side) (g : Side → ℕ → A) (p : Side → ℕ) (n : ℕ) → update i (g i n) (λ s. g s (p s)) ≡ (λ s. g s (update i n p s))
-put-count i g p n = λ j s. at i s j
+pub put-under : {A B : Type 0} (i : Side) (g : Side → A → B) (p : Side → A) (n : A) → update i (g i n) (λ s. g s (p s)) ≡ (λ s. g s (update i n p s))
+put-under i g p n = λ j s. at i s j
   where
     at : (i s : Side) → update i (g i n) (λ s. g s (p s)) s ≡ g s (update i n p s)
     at side0 side0 = refl
@@ -218,10 +218,10 @@ module _ (S : Scheme) (a : Inputs) (tape : List ℕ) (p : Side → ℕ) (i : Sid
             })
             ∙ (λ j.
             record {
-              unit = put-count i (unitAt S a tape) p (suc (p i)) j;
+              unit = put-under i (unitAt S a tape) p (suc (p i)) j;
               sent =
                   (ap (λ (l : List (List ℕ)). update i l (λ s. take (p s) (outgoing S a tape s))) (one-more (p i) (ready .notDone))
-                  ∙ put-count i (λ s n. take n (outgoing S a tape s)) p (suc (p i))) j;
+                  ∙ put-under i (λ s n. take n (outgoing S a tape s)) p (suc (p i))) j;
             })
           where
             old : List (List ℕ)

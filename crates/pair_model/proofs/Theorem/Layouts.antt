@@ -48,12 +48,12 @@ bytes-concat [] (s ∷ fields) h = absurd h
 bytes-concat (n ∷ sizes) [] h = absurd h
 bytes-concat (n ∷ sizes) (s ∷ fields) h = bytes-append (h .0) (bytes-concat sizes fields (h .1))
 
+-- what is behind the first n bytes
+pub bytes-drop : (n : ℕ) {k : ℕ} {s : List ℕ} → Bytes (n + k) s → Bytes k (drop n s)
+bytes-drop n h = record { size = rw length-drop (omega (arith, h .size)); small = λ i. rw getD-drop (h .small (n + i)) }
+
 -- the fields of a string of the layout's length have these sizes
 pub laid-fields : (sizes s : List ℕ) → Bytes (layoutBytes sizes) s → Laid sizes (fieldsOf sizes s)
 unfolding fieldsOf
 laid-fields [] s h = tt
-laid-fields (n ∷ sizes) s h =
-    (bytes-slice (n + layoutBytes sizes) 0 n s h (omega arith), laid-fields sizes (drop n s) rest)
-  where
-    rest : Bytes (layoutBytes sizes) (drop n s)
-    rest = record { size = rw length-drop (omega (arith, h .size)); small = λ i. rw getD-drop (h .small (n + i)) }
+laid-fields (n ∷ sizes) s h = (bytes-slice (n + layoutBytes sizes) 0 n s h (omega arith), laid-fields sizes (drop n s) (bytes-drop n h))

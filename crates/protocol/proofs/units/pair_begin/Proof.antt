@@ -1,25 +1,52 @@
--- `protocol::units::pair_begin` meets its contract: a slice of its length holds what the beginning gave.
-use mathlib.Core.Path.{ap, _∙_}
+-- `protocol::units::pair_begin` meets its contract: a slice of its length holds what the beginning gave, and stands for it.
+use mathlib.Core.Path.{_≡_, refl, sym, ap, _∙_}
+use native.Mathlib.Omega.{arith}
 use borrow.Author.Needs.{needs}
 use Rattle.pair_model.specs.Base.{base}
-use Rattle.pair_model.specs.StateSlice.{encodeState}
-use Rattle.pair_model.proofs.Internal.Encodings.{decode-encode, begin-short, begin-long}
+use Rattle.pair_model.specs.Unit.{begin}
+use Rattle.pair_model.specs.StateSlice.{encodeState, decodeState}
+use Rattle.pair_model.proofs.Internal.Begins.{begin-result, begin-accepted, begin-refused}
+use Rattle.pair_model.proofs.Internal.Encodings.{begin-short, begin-long}
+use Rattle.pair_model.proofs.Theorem.Main.{begins, base-demand3}
+use Rattle.pair_model.proofs.Theorem.Calls.{decoded-begun, states-fit, calls-are-runs}
 use Rattle.pair_units.specs.declared.state.UnitState.{UnitState}
 use Rattle.pair_units.specs.Units.{stateOf}
 use Rattle.protocol.proofs.units.pair_begin.Statement.{statement}
 use Rattle.protocol.proofs.units.pair_begin.Tie as tie
 
+-- a slice of another length is left
 returns : tie.Need-returns
 returns c =
-    let b = begin-short base _ (c .if1 .taken) _ _ _ _ in
-    (b .0, (b .1, decode-encode base))
+    let short = c .if1 .taken in
+    let b = begin-short base _ short _ _ _ _ in
+    (b .0, (b .1, ((λ z. absurd (omega (arith, z))), ((λ z l. absurd (short l)), ((λ l. (refl, refl)), ((λ l. absurd (short l)), (states-fit base, (calls-are-runs base, (begins base, base-demand3 .privacy)))))))))
 
 returns-2 : tie.Need-returns-2
 returns-2 c =
     let g = c .before .before .before .before .before in
-    let b = begin-long base _ (g .before .if1 .left) _ _ _ _ in (
-      g .begin .ensures .0 ∙ b .0,
-      (c .before .before .encode .ensures ∙ ap (λ (u : UnitState). encodeState (stateOf u)) (g .begin .ensures .1 .0) ∙ b .1, decode-encode base),
+    let k = g .before .before in
+    let a = k .before .before .before .args in
+    let side = a .side in
+    let session = a .session in
+    let key = a .key .now in
+    let label = a .label .now in
+    let long = g .before .if1 .left in
+    let b = begin-long base _ long side session key label in
+    let number = g .begin .ensures .0 in
+    let held : _ ≡ encodeState (begin base side session key label .next) = c .before .before .encode .ensures ∙ ap (λ (u : UnitState). encodeState (stateOf u)) (g .begin .ensures .1 .0) in
+    let is = number ∙ begin-result base side session key label in
+    let next = ap (decodeState base) (held ∙ b .1) ∙ decoded-begun base _ long side session key label (omega arith) (λ i. k .before .before .shared-slice-known .given i .fits) (λ i. k .before .shared-slice-known2 .given i .fits) in (
+      number ∙ b .0,
+      (
+        held ∙ b .1,
+        (
+          (λ z. held ∙ ap encodeState (begin-accepted base side session key label (sym is ∙ z))),
+          (
+            (λ z l. held ∙ ap encodeState (begin-refused base side session key label (λ q. z (is ∙ q)))),
+            ((λ l. absurd (l long)), ((λ l. next), (states-fit base, (calls-are-runs base, (begins base, base-demand3 .privacy))))),
+          ),
+        ),
+      ),
     )
 
 pub pair-begin-spec : {M : Type 1} → statement M
