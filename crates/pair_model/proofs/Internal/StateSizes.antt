@@ -17,10 +17,9 @@ use Rattle.pair_model.specs.StateSlice.{stateBytes, secretsLayout, encod
 use Rattle.pair_model.specs.Calls.{AreBytes}
 use Rattle.pair_model.proofs.Theorem.Layouts.{Laid, fieldsOf, laid-fields, bytes-concat, bytes-drop}
 use Rattle.pair_model.proofs.Theorem.MaskLaws.{bytes-mask-of}
-use Rattle.pair_model.proofs.Theorem.StepLaws.{numberFor, step-accepted, step-result, step-refused}
+use Rattle.pair_model.proofs.Theorem.StepLaws.{numberFor, step-accepted, step-result, step-refused, fits}
 use Rattle.pair_model.proofs.Theorem.ShareLaws.{bytes-code}
 use Rattle.pair_model.proofs.Internal.Begins.{begin-fits, begin-accepted, begin-refused}
-use Rattle.pair_model.proofs.Internal.StepNumbers.{fits}
 use Rattle.pair_model.proofs.Internal.Encodings.{inSliceOrder, laid-secrets}
 
 -- ---- frames and slices
