@@ -133,7 +133,7 @@ fn write_deal(session: u32, tape: &[u8], out: &mut [u8])
 pub fn deal(session: u32, tape: &[u8], out: &mut [u8]) -> u32
     ensures result { λ n. ⌜ n ≡ dealNumber base (now (tape .entry)) (length (now (out .entry))) ⌝ }
     ensures output { λ n. ⌜ now (out .exit) ≡ output n (dealt base session [] (now (tape .entry))) (now (out .entry)) ⌝ }
-    ensures accepted { λ _. ⌜ TakesAccepted base ⌝ }
+    ensures accepted_tapes { λ _. ⌜ TakesAccepted base ⌝ }
     ensures privacy { λ _. ⌜ Privacy (protocol base) ⌝ }
 {
     let number = deal_number(tape, out.len());

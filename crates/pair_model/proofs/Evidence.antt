@@ -6,6 +6,7 @@ pub mod Small
 pub mod Strays
 pub mod Leaky
 pub mod LeakyMask
+pub mod WithoutZ
 pub mod LeakyDealer
 pub mod Wrong
 pub mod WrongMask

@@ -78,7 +78,7 @@ pub extern "C" fn pair_sample(source: &[u8], out: &mut [u8], count: &mut u64) ->
 pub extern "C" fn pair_deal(session: u32, tape: &[u8], out: &mut [u8]) -> u32
     ensures result { λ r. ⌜ r ≡ dealNumber base (now (tape .entry)) (length (now (out .entry))) ⌝ }
     ensures output { λ r. ⌜ now (out .exit) ≡ output r (dealt base session [] (now (tape .entry))) (now (out .entry)) ⌝ }
-    ensures accepted { λ _. ⌜ TakesAccepted base ⌝ }
+    ensures accepted_tapes { λ _. ⌜ TakesAccepted base ⌝ }
     ensures privacy { λ _. ⌜ Privacy (protocol base) ⌝ }
 {
     deal(session, tape, out)

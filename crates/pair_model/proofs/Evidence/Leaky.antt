@@ -1,5 +1,5 @@
 -- Two leaky protocols, which differ from the protocol in the step alone, and that they do not have `Privacy`.
-use Prim.Native.Nat.{ℕ}
+use Prim.Native.Nat.{ℕ, _≤_}
 use mathlib.Core.Path.{_≡_, refl, sym, ap, _∙_, subst}
 use mathlib.Core.Logic.{_≢_}
 use mathlib.Core.List.{List, [], _∷_, _++_}
@@ -7,14 +7,14 @@ use mathlib.Core.Bool.{cond}
 use native.Mathlib.Omega.{arith}
 use native.Mathlib.Nat.{le-refl}
 use lib.Dec.{eqb, lit<}
-use lib.ListN.{getD}
+use lib.ListN.{length, getD}
 use lib.Seq.{take-at}
 use Rattle.linear_model.specs.Bits.{zeros}
 use Rattle.pair_model.specs.Scheme.{Scheme, Linear, Side, side0, side1, field, concat}
 use Rattle.pair_model.specs.Tape.{Accepted}
 use Rattle.pair_model.specs.Frame.{dealKind, frame, header, bodyOf, openLayout}
 use Rattle.pair_model.specs.Unit.{Stepped, refused, idle, leastOutput, stepNumber, takeDeal, takeOpen, advance, step}
-use Rattle.pair_model.specs.Run.{Protocol, protocol, Inputs, WellFormed, Run, runOf, Configuration, asSent, Entry, entry, SharedEntry, same, update, start, frameOf, stepOf, next, DeliveredAsSent, firstOf, secondOf}
+use Rattle.pair_model.specs.Run.{Protocol, protocol, Inputs, WellFormed, Run, runOf, Configuration, asSent, Entry, entry, SharedEntry, same, update, start, framesFor, frameOf, stepOf, next, DeliveredAsSent, firstOf, secondOf}
 use Rattle.pair_model.specs.View.{Event, View, events, view}
 use Rattle.pair_model.specs.Theorem.{SameForFixed, Hides, Privacy}
 use Rattle.pair_model.proofs.Theorem.Stages.{parametersAt, incoming, unitAt, accepts-deal}
@@ -45,6 +45,13 @@ next-by P run c e s q = λ j. stepped c (e .side) (q j)
 -- an entry as sent, with this file
 abbrev pub sent : Scheme → List ℕ → Side → Entry
 sent S file i = entry i asSent file (leastOutput S)
+
+-- it is delivered as sent at a configuration in which the frame is there
+pub delivered-at : (P : Protocol) (run : Run) (file : List ℕ) → file ≡ run .inputs .file → {c d : Configuration} (i : Side) → c ≡ d
+    → 1 ≤ d .unit i .stage → d .unit i .stage ≤ length (framesFor P run d i) → DeliveredAsSent P run c (sent (P .scheme) file i)
+delivered-at P run file e i q l m =
+    subst (λ (c : Configuration). DeliveredAsSent P run c (sent (P .scheme) file i)) (sym q)
+    (record { waiting = l; written = m; file = λ t. e; output = le-refl (leastOutput (P .scheme)) })
 
 -- no event
 abbrev pub none : Event
@@ -106,21 +113,15 @@ module _ (S : Scheme) (L : Linear S) (a : Inputs) (tape : List ℕ) (well : Well
     -- the three entries are delivered as sent
     bare-v₀ : Delivered (start (bareKey S) R) side1
     unfolding R configurationAt unitAt
-    bare-v₀ =
-        subst (λ (c : Configuration). Delivered c side1) (sym (start-at S a well tape))
-        (record { waiting = omega arith; written = omega arith; file = λ t. e; output = le-refl (leastOutput S) })
+    bare-v₀ = delivered-at (bareKey S) R file e side1 (start-at S a well tape) (omega arith) (omega arith)
 
     bare-v₁ : Delivered (next (bareKey S) R (start (bareKey S) R) (sent S file side1)) side0
     unfolding R B₁ bareDeal configurationAt unitAt takeDealBare
-    bare-v₁ =
-        subst (λ (c : Configuration). Delivered c side0) (sym bare-c₁)
-        (record { waiting = omega arith; written = omega arith; file = λ t. e; output = le-refl (leastOutput S) })
+    bare-v₁ = delivered-at (bareKey S) R file e side0 bare-c₁ (omega arith) (omega arith)
 
     bare-v₂ : Delivered (next (bareKey S) R (next (bareKey S) R (start (bareKey S) R) (sent S file side1)) (sent S file side0)) side0
     unfolding R B₁ B₂ bareDeal configurationAt unitAt takeDealBare
-    bare-v₂ =
-        subst (λ (c : Configuration). Delivered c side0) (sym bare-c₂)
-        (record { waiting = omega arith; written = omega arith; file = λ t. e; output = le-refl (leastOutput S) })
+    bare-v₂ = delivered-at (bareKey S) R file e side0 bare-c₂ (omega arith) (omega arith)
 
     -- and the third hands side 0 the key half of side 1
     bare-seen : let c₁ = next (bareKey S) R (start (bareKey S) R) (sent S file side1) in

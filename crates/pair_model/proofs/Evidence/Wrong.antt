@@ -21,7 +21,7 @@ use Rattle.pair_model.specs.Leaky.{small, bareKey, withoutZ, innerMaskDe
 use Rattle.pair_model.proofs.Theorem.Pairing.{innerOf}
 use Rattle.pair_model.proofs.Evidence.Small.{zero-one, small-linear, bytes-one, smallInputs, small-well, zero-tape}
 use Rattle.pair_model.proofs.Evidence.Leaky.{sent, bare-key}
-use Rattle.pair_model.proofs.Evidence.LeakyMask.{without-z}
+use Rattle.pair_model.proofs.Evidence.WithoutZ.{without-z}
 use Rattle.pair_model.proofs.Evidence.LeakyDealer.{inner-mask-leaks}
 
 -- two inputs of the small scheme: key halves 0 and 1 of side 1, and so inner vectors 0 and 1
