@@ -16,7 +16,7 @@ use Rattle.pair_model.specs.Theorem.{SameForFixed, Hides, Done, shareFra
 use Rattle.pair_model.specs.Lowest.{LowestNumbers}
 use Rattle.pair_model.specs.Examples.{TwelveExamples}
 use Rattle.pair_model.specs.Sample.{SampleCompared}
-use Rattle.pair_model.specs.Leaky.{small, bareKey, withoutZ, innerMaskDealt, otherKeyShown, emptyMask, halfForMask, copiedMask, refusesAll, secondDeal}
+use Rattle.pair_model.specs.Leaky.{small, bareKey, withoutZ, innerMaskDealt, otherKeyShown, emptyMask, halfForMask, copiedMask, refusesAll, secondDeal, tellingNumber, clearingRefusal, wakingUnit}
 
 -- every entry shared
 abbrev pub shared : List Entry → List SharedEntry
@@ -58,3 +58,6 @@ pub record Evidence : Type 0 where
   pub copiedMask : ¬ Demand3 (copiedMask small)
   pub refusesAll : ¬ Demand3 (refusesAll small)
   pub secondDeal : ¬ Demand3 (secondDeal small)
+  pub tellingNumber : ¬ Demand3 (tellingNumber small)
+  pub clearingRefusal : ¬ Demand3 (clearingRefusal small)
+  pub wakingUnit : ¬ Demand3 (wakingUnit small)

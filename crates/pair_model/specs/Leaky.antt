@@ -1,14 +1,14 @@
 -- Protocols that must not pass: each is the protocol with one part exchanged.
-use Prim.Native.Nat.{ℕ}
+use Prim.Native.Nat.{ℕ, _+_}
 use mathlib.Core.List.{List, [], _∷_}
 use mathlib.Core.Bool.{cond, false, _&&_}
 use lib.Dec.{eqb}
-use Rattle.linear_model.specs.Bits.{addBits}
+use Rattle.linear_model.specs.Bits.{bit, addBits}
 use Rattle.linear_model.specs.Products.{circulantProduct}
 use Rattle.pair_model.specs.Scheme.{Scheme, Side, side0, side1, other, field, concat}
 use Rattle.pair_model.specs.Tape.{K̃, x̃, w̃, r0, dealLayout}
 use Rattle.pair_model.specs.Frame.{dealKind, openKind, maskKind, frame, kindOf, bodyOf, openLayout}
-use Rattle.pair_model.specs.Unit.{State, state, Stepped, refused, K̂, x̂, withDeal, withMask, addIfSide0, stepNumber, takeDeal, takeOpen, takeMask, step}
+use Rattle.pair_model.specs.Unit.{State, state, Stepped, refused, idleStage, nothing, K̂, x̂, withDeal, withMask, addIfSide0, stepNumber, takeDeal, takeOpen, takeMask, step}
 use Rattle.pair_model.specs.Dealer.{dealFrame}
 use Rattle.pair_model.specs.Run.{Protocol, protocol}
 
@@ -127,3 +127,34 @@ module _ (S : Scheme) where
 
   abbrev pub secondDeal : Protocol
   secondDeal = withStep dealAgain
+
+  -- ---- a number that tells a bit of the key half: 4 for 3 where it is set
+
+  unfoldable pub numberByKey : State → List ℕ → List ℕ → ℕ → Stepped
+  numberByKey u f file outputLength =
+      let s = step S u f file outputLength in
+      record { result = cond (eqb (s .result) 3) (3 + bit (u .secrets .key) 0) (s .result); written = s .written; next = s .next }
+
+  abbrev pub tellingNumber : Protocol
+  tellingNumber = withStep numberByKey
+
+  -- ---- a refusal that clears the secrets
+
+  unfoldable pub clearedIfRefused : State → List ℕ → List ℕ → ℕ → Stepped
+  clearedIfRefused u f file outputLength =
+      let s = step S u f file outputLength in
+      cond (eqb (s .result) 0) s (refused (s .result) (state (u .parameters) (u .stage) (nothing S)))
+
+  abbrev pub clearingRefusal : Protocol
+  clearingRefusal = withStep clearedIfRefused
+
+  -- ---- an idle unit that takes any frame, and waits for a deal then
+
+  unfoldable pub wokenIfIdle : State → List ℕ → List ℕ → ℕ → Stepped
+  wokenIfIdle u f file outputLength =
+      cond (eqb (u .stage) idleStage)
+      (record { result = 0; written = []; next = state (u .parameters) dealKind (u .secrets) })
+      (step S u f file outputLength)
+
+  abbrev pub wakingUnit : Protocol
+  wakingUnit = withStep wokenIfIdle

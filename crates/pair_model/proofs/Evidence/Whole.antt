@@ -11,7 +11,7 @@ use Rattle.pair_model.proofs.Evidence.Sample.{sample-compared}
 use Rattle.pair_model.proofs.Evidence.Strays.{shared-comparable}
 use Rattle.pair_model.proofs.Evidence.Dealing.{deal-accepted, sampled-accepted}
 use Rattle.pair_model.proofs.Evidence.OtherShare.{other-share-frame}
-use Rattle.pair_model.proofs.Evidence.Wrong.{bare-key-fails, without-z-fails, inner-mask-fails, other-key-fails, refuses-all-fails, second-deal-fails}
+use Rattle.pair_model.proofs.Evidence.Wrong.{bare-key-fails, without-z-fails, inner-mask-fails, other-key-fails, refuses-all-fails, second-deal-fails, telling-number-fails, clearing-refusal-fails, waking-unit-fails}
 use Rattle.pair_model.proofs.Evidence.WrongMask.{empty-mask-fails, half-for-mask-fails, copied-mask-fails}
 
 pub evidence : Evidence
@@ -36,6 +36,9 @@ evidence =
       copiedMask = copied-mask-fails;
       refusesAll = refuses-all-fails;
       secondDeal = second-deal-fails;
+      tellingNumber = telling-number-fails;
+      clearingRefusal = clearing-refusal-fails;
+      wakingUnit = waking-unit-fails;
     }
 
 -- the clauses of a step's contract that speak of all runs

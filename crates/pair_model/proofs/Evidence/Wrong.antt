@@ -10,14 +10,14 @@ use Rattle.linear_model.specs.Tables.{tabulate, sum, every}
 use Rattle.linear_model.specs.Trits.{trit, fitTrits}
 use Rattle.linear_model.specs.Products.{bitProduct}
 use Rattle.numbers.specs.Number.{first, onlyIf}
-use Rattle.pair_model.specs.Scheme.{side0, field}
+use Rattle.pair_model.specs.Scheme.{side0, side1, field}
 use Rattle.pair_model.specs.Frame.{parameters, openKind, frame}
 use Rattle.pair_model.specs.Header.{readHeader}
-use Rattle.pair_model.specs.Unit.{State, state, nothing, leastOutput, beginConditions, begin, readsFile, stepConditions, takeDeal, step}
-use Rattle.pair_model.specs.Run.{Inputs, WellFormed, runOf, Lent, start, DeliveredAsSent}
+use Rattle.pair_model.specs.Unit.{State, state, nothing, halves, idle, leastOutput, beginConditions, begin, readsFile, stepConditions, takeDeal, step}
+use Rattle.pair_model.specs.Run.{Inputs, WellFormed, runOf, Lent, same, strayOf, start, DeliveredAsSent}
 use Rattle.pair_model.specs.View.{View, events, view}
 use Rattle.pair_model.specs.Theorem.{SameForFixed, Demand3}
-use Rattle.pair_model.specs.Leaky.{small, bareKey, withoutZ, innerMaskDealt, otherKeyShown, refusesAll, dealAgain, secondDeal}
+use Rattle.pair_model.specs.Leaky.{small, bareKey, withoutZ, innerMaskDealt, otherKeyShown, refusesAll, dealAgain, secondDeal, numberByKey, tellingNumber, clearedIfRefused, clearingRefusal, wokenIfIdle, wakingUnit}
 use Rattle.pair_model.proofs.Theorem.Pairing.{innerOf}
 use Rattle.pair_model.proofs.Evidence.Small.{zero-one, small-linear, bytes-one, smallInputs, small-well, zero-tape}
 use Rattle.pair_model.proofs.Evidence.Leaky.{sent, bare-key}
@@ -97,3 +97,33 @@ second-deal-fails d = two-three (d .threeFrames .counts waiting (dealOfZeros ∷
   where
     two-three : ¬ (_≡_ {A = ℕ} 2 3)
     two-three e = omega arith
+
+-- ---- a refusal that tells, or does, too much
+
+-- an empty frame
+abbrev noFrame : Lent
+noFrame = record { frame = []; file = []; outputLength = 8 }
+
+-- the other unit's number for a stray entry that both runs share differs
+pub telling-number-fails : ¬ Demand3 (tellingNumber small)
+unfolding numberByKey begin beginConditions step stepConditions readHeader readsFile onlyIf first bit
+telling-number-fails d =
+    let H = d .privacy side0 a b well₁ well₂ same-for in
+    three-four (H .sameView (zeros 8) zero-tape (same (strayOf side1 noFrame) ∷ []) ((λ e. omega (arith, e)), tt) .numbers .0)
+  where
+    three-four : ¬ (_≡_ {A = ℕ} 3 4)
+    three-four e = omega arith
+
+-- the key half 1 is gone
+pub clearing-refusal-fails : ¬ Demand3 (clearingRefusal small)
+unfolding clearedIfRefused step stepConditions readHeader readsFile onlyIf first
+clearing-refusal-fails d =
+    zero-one [] [] (ap (λ (u : State). u .secrets .key)
+    (d .threeFrames .refusal (state (parameters 0 1) openKind (halves small (1 ∷ []) (0 ∷ []))) noFrame (λ e. omega (arith, e)) .1))
+
+pub waking-unit-fails : ¬ Demand3 (wakingUnit small)
+unfolding wokenIfIdle
+waking-unit-fails d = one-zero (d .threeFrames .idle (idle small) (noFrame ∷ []) refl)
+  where
+    one-zero : ¬ (_≡_ {A = ℕ} 1 0)
+    one-zero e = omega arith
