@@ -5,11 +5,13 @@ use mathlib.Core.Logic.{_≢_}
 use mathlib.Core.List.{List, [], _∷_}
 use Rattle.linear_model.specs.Bits.{zeros}
 use Rattle.matrix_model.specs.Sample.{sampleFile}
-use Rattle.pair_model.specs.Scheme.{Scheme, Side, side0, side1, other}
+use Rattle.pair_model.specs.Scheme.{Scheme, Side, side0, side1, other, total}
 use Rattle.pair_model.specs.Tape.{tapeBytes, Accepted}
+use Rattle.pair_model.specs.Frame.{codeBytes}
+use Rattle.pair_model.specs.Evaluator.{evaluateNumber}
 use Rattle.pair_model.specs.Unit.{leastOutput}
 use Rattle.pair_model.specs.Base.{base}
-use Rattle.pair_model.specs.Run.{protocol, Inputs, WellFormed, Run, runOf, Entry, entry, asSent, stray, Lent, SharedEntry, same, differ, update, start, final, firstOf, Comparable}
+use Rattle.pair_model.specs.Run.{protocol, Inputs, WellFormed, Run, runOf, Entry, entry, asSent, stray, Lent, SharedEntry, same, differ, update, start, final, DeliveredAsSent, firstOf, Comparable}
 use Rattle.pair_model.specs.Theorem.{SameForFixed, Done, ownCode}
 
 -- what each side has
@@ -41,6 +43,10 @@ changed i =
 abbrev pub sampleRun : Run
 sampleRun = runOf sampleInputs (zeros (tapeBytes base))
 
+-- an entry as sent for a unit
+abbrev pub sampleEntry : Side → Entry
+sampleEntry i = entry i asSent sampleFile (leastOutput base)
+
 -- the six entries in order, with an empty frame for the fixed unit and, for the other one, a stray call that differs between the runs
 abbrev pub withStrays : Scheme → List ℕ → Side → List SharedEntry
 withStrays S file fixed =
@@ -61,5 +67,10 @@ pub record SampleCompared : Type 0 where
       Comparable P fixed sampleRun run₂ (start P sampleRun) (start P run₂) (withStrays base sampleFile fixed)
   pub done : (fixed : Side) → let P = protocol base in
       Done P (final P sampleRun (start P sampleRun) (firstOf fixed (withStrays base sampleFile fixed)))
-  -- 101 and 78 zeros
+  -- each unit's deal is there at the start, and what unit 0 waits for after it is not
+  pub available : (i : Side) → let P = protocol base in DeliveredAsSent P sampleRun (start P sampleRun) (sampleEntry i)
+  pub notAhead : let P = protocol base in
+      ¬ DeliveredAsSent P sampleRun (final P sampleRun (start P sampleRun) (sampleEntry side0 ∷ [])) (sampleEntry side0)
+  -- 101 and 78 zeros, which the evaluator gives too
+  pub evaluates : evaluateNumber base (total (base .keyBytes) (sampleInputs .key)) (total (base .keyBytes) (sampleInputs .label)) sampleFile (codeBytes base) ≡ 0
   pub code : ownCode (protocol base) sampleRun ≡ 5 ∷ zeros 21

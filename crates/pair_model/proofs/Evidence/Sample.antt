@@ -2,11 +2,12 @@
 use Prim.Native.Nat.{ℕ, zero, suc, _+_, _*_, _%_, _<_}
 use mathlib.Core.Path.{_≡_, refl, sym, ap, ap₂, _∙_}
 use mathlib.Core.Logic.{_≢_}
-use mathlib.Core.List.{List, _∷_}
+use mathlib.Core.List.{List, [], _∷_}
 use mathlib.Core.Bool.{Bool, true, false, cond, false≢true}
 use native.Mathlib.Omega.{arith}
+use native.Mathlib.Nat.{le-refl}
 use borrow.Author.Tests.{eq-eqb, ne-eqb}
-use lib.Dec.{T, ltb, eqb, ltb→lt, lit<}
+use lib.Dec.{T, ltb, eqb, ltb→lt, lit<, lit≤}
 use lib.ListN.{getD, drop}
 use Rattle.linear_model.specs.Bits.{Bytes, zeros, fromBits, bit, pack}
 use Rattle.linear_model.specs.Tables.{tabulate, every, below, sum}
@@ -22,9 +23,9 @@ use Rattle.pair_model.specs.Scheme.{Side, side0, side1, other, fileNumbe
 use Rattle.pair_model.specs.Tape.{r0, Accepted}
 use Rattle.pair_model.specs.Evaluator.{codeOf, code}
 use Rattle.pair_model.specs.Base.{base}
-use Rattle.pair_model.specs.Run.{Inputs, WellFormed, runOf, protocol, sentCount, firstOf}
-use Rattle.pair_model.specs.Theorem.{SameForFixed, ownCode}
-use Rattle.pair_model.specs.Sample.{sampleInputs, changed, sampleRun, withStrays, SampleCompared}
+use Rattle.pair_model.specs.Run.{Inputs, WellFormed, runOf, protocol, sentCount, start, final, DeliveredAsSent, firstOf}
+use Rattle.pair_model.specs.Theorem.{SameForFixed, ownCode, CorrectRun}
+use Rattle.pair_model.specs.Sample.{sampleInputs, changed, sampleRun, sampleEntry, withStrays, SampleCompared}
 use Rattle.pair_model.proofs.Theorem.Main.{base-linear}
 use Rattle.pair_model.proofs.Theorem.Correct.{correct}
 use Rattle.pair_model.proofs.Evidence.Strays.{with-strays}
@@ -96,6 +97,18 @@ three side0 side1 = refl
 three side1 side0 = refl
 three side1 side1 = refl
 
+-- what the theorem says of the sample
+abbrev run-correct : CorrectRun (protocol base) sampleRun
+run-correct = correct base base-linear sampleInputs (zeros 256) well accepted-zeros
+
+available : (i : Side) → DeliveredAsSent (protocol base) sampleRun (start (protocol base) sampleRun) (sampleEntry i)
+unfolding sentCount final
+available i = run-correct .available [] tt (sampleEntry i) (record { notDone = lit< tt; notAhead = lit≤ tt; file = λ t. refl; output = le-refl 70 })
+
+not-ahead : let P = protocol base in ¬ DeliveredAsSent P sampleRun (final P sampleRun (start P sampleRun) (sampleEntry side0 ∷ [])) (sampleEntry side0)
+unfolding sentCount
+not-ahead d = omega (arith, run-correct .only-available (sampleEntry side0 ∷ []) (available side0, tt) (sampleEntry side0) d .notAhead)
+
 -- ---- the code
 
 abbrev label : List ℕ
@@ -149,9 +162,12 @@ sample-compared =
       comparable = λ fixed tape. with-strays base base-linear sampleInputs (zeros 256) well accepted-zeros fixed (runOf (changed (other fixed)) tape);
       done =
           λ fixed i.
-          correct base base-linear sampleInputs (zeros 256) well accepted-zeros .stages (firstOf fixed (withStrays base sampleFile fixed))
+          run-correct .stages (firstOf fixed (withStrays base sampleFile fixed))
           (first-list (protocol base) fixed sampleRun sampleRun _ _ (withStrays base sampleFile fixed)
           (with-strays base base-linear sampleInputs (zeros 256) well accepted-zeros fixed sampleRun)) i
           ∙ ap (λ (k : ℕ). 1 + k) (three fixed i);
+      available = available;
+      notAhead = not-ahead;
+      evaluates = run-correct .evaluates;
       code = code-is;
     }
