@@ -8,6 +8,7 @@ use Rattle.numbers.specs.Number.{_when_, first}
 use Rattle.numbers.specs.Lowest.{Lowest}
 use Rattle.pair_model.specs.Scheme.{Side, other}
 use Rattle.pair_model.specs.Tape.{Accepted}
+use Rattle.pair_model.specs.Unit.{idleStage, doneStage}
 use Rattle.pair_model.specs.Base.{base}
 use Rattle.pair_model.specs.Sampler.{sampled, sampleNumber}
 use Rattle.pair_model.specs.Dealer.{TakesAccepted}
@@ -16,7 +17,7 @@ use Rattle.pair_model.specs.Theorem.{SameForFixed, Hides, Done, shareFra
 use Rattle.pair_model.specs.Lowest.{LowestNumbers}
 use Rattle.pair_model.specs.Examples.{TwelveExamples}
 use Rattle.pair_model.specs.Sample.{SampleCompared}
-use Rattle.pair_model.specs.Leaky.{small, bareKey, withoutZ, innerMaskDealt, otherKeyShown, emptyMask, halfForMask, copiedMask, refusesAll, secondDeal, tellingNumber, clearingRefusal, wakingUnit}
+use Rattle.pair_model.specs.Leaky.{small, bareKey, withoutZ, innerMaskDealt, otherKeyShown, emptyMask, halfForMask, copiedMask, refusesAll, secondDeal, tellingNumber, clearingRefusal, takesAt, refusedBeginning}
 
 -- every entry shared
 abbrev pub shared : List Entry → List SharedEntry
@@ -60,4 +61,7 @@ pub record Evidence : Type 0 where
   pub secondDeal : ¬ Demand3 (secondDeal small)
   pub tellingNumber : ¬ Demand3 (tellingNumber small)
   pub clearingRefusal : ¬ Demand3 (clearingRefusal small)
-  pub wakingUnit : ¬ Demand3 (wakingUnit small)
+  pub idleTakes : ¬ Demand3 (takesAt small idleStage)
+  pub doneTakes : ¬ Demand3 (takesAt small doneStage)
+  pub beyondTakes : ¬ Demand3 (takesAt small 5)
+  pub refusedBeginning : ¬ Demand3 (refusedBeginning small)

@@ -1,5 +1,5 @@
 -- Protocols that must not pass: each is the protocol with one part exchanged.
-use Prim.Native.Nat.{ℕ, _+_}
+use Prim.Native.Nat.{ℕ, suc, _+_}
 use mathlib.Core.List.{List, [], _∷_}
 use mathlib.Core.Bool.{cond, false, _&&_}
 use lib.Dec.{eqb}
@@ -8,7 +8,7 @@ use Rattle.linear_model.specs.Products.{circulantProduct}
 use Rattle.pair_model.specs.Scheme.{Scheme, Side, side0, side1, other, field, concat}
 use Rattle.pair_model.specs.Tape.{K̃, x̃, w̃, r0, dealLayout}
 use Rattle.pair_model.specs.Frame.{dealKind, openKind, maskKind, frame, kindOf, bodyOf, openLayout}
-use Rattle.pair_model.specs.Unit.{State, state, Stepped, refused, idleStage, nothing, K̂, x̂, withDeal, withMask, addIfSide0, stepNumber, takeDeal, takeOpen, takeMask, step}
+use Rattle.pair_model.specs.Unit.{State, state, Stepped, refused, nothing, K̂, x̂, withDeal, withMask, addIfSide0, stepNumber, takeDeal, takeOpen, takeMask, step}
 use Rattle.pair_model.specs.Dealer.{dealFrame}
 use Rattle.pair_model.specs.Run.{Protocol, protocol}
 
@@ -148,13 +148,24 @@ module _ (S : Scheme) where
   abbrev pub clearingRefusal : Protocol
   clearingRefusal = withStep clearedIfRefused
 
-  -- ---- an idle unit that takes any frame, and waits for a deal then
+  -- ---- a unit that takes any frame at one stage, and is one stage further then
 
-  unfoldable pub wokenIfIdle : State → List ℕ → List ℕ → ℕ → Stepped
-  wokenIfIdle u f file outputLength =
-      cond (eqb (u .stage) idleStage)
-      (record { result = 0; written = []; next = state (u .parameters) dealKind (u .secrets) })
+  unfoldable pub takenAt : ℕ → State → List ℕ → List ℕ → ℕ → Stepped
+  takenAt stage u f file outputLength =
+      cond (eqb (u .stage) stage)
+      (record { result = 0; written = []; next = state (u .parameters) (suc stage) (u .secrets) })
       (step S u f file outputLength)
 
-  abbrev pub wakingUnit : Protocol
-  wakingUnit = withStep wokenIfIdle
+  abbrev pub takesAt : ℕ → Protocol
+  takesAt stage = withStep (takenAt stage)
+
+  -- ---- a beginning that is told as refused
+
+  abbrev pub refusedBeginning : Protocol
+  refusedBeginning =
+      record {
+        scheme = S;
+        deal = protocol S .deal;
+        beginning = λ a i. record { result = 2; next = protocol S .beginning a i .next };
+        step = step S;
+      }

@@ -11,7 +11,7 @@ use Rattle.pair_model.proofs.Evidence.Sample.{sample-compared}
 use Rattle.pair_model.proofs.Evidence.Strays.{shared-comparable}
 use Rattle.pair_model.proofs.Evidence.Dealing.{deal-accepted, sampled-accepted}
 use Rattle.pair_model.proofs.Evidence.OtherShare.{other-share-frame}
-use Rattle.pair_model.proofs.Evidence.Wrong.{bare-key-fails, without-z-fails, inner-mask-fails, other-key-fails, refuses-all-fails, second-deal-fails, telling-number-fails, clearing-refusal-fails, waking-unit-fails}
+use Rattle.pair_model.proofs.Evidence.Wrong.{bare-key-fails, without-z-fails, inner-mask-fails, other-key-fails, refuses-all-fails, second-deal-fails, telling-number-fails, clearing-refusal-fails, idle-takes-fails, done-takes-fails, beyond-takes-fails, refused-beginning-fails}
 use Rattle.pair_model.proofs.Evidence.WrongMask.{empty-mask-fails, half-for-mask-fails, copied-mask-fails}
 
 pub evidence : Evidence
@@ -38,7 +38,10 @@ evidence =
       secondDeal = second-deal-fails;
       tellingNumber = telling-number-fails;
       clearingRefusal = clearing-refusal-fails;
-      wakingUnit = waking-unit-fails;
+      idleTakes = idle-takes-fails;
+      doneTakes = done-takes-fails;
+      beyondTakes = beyond-takes-fails;
+      refusedBeginning = refused-beginning-fails;
     }
 
 -- the clauses of a step's contract that speak of all runs

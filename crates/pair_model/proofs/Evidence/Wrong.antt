@@ -13,11 +13,11 @@ use Rattle.numbers.specs.Number.{first, onlyIf}
 use Rattle.pair_model.specs.Scheme.{side0, side1, field}
 use Rattle.pair_model.specs.Frame.{parameters, openKind, frame}
 use Rattle.pair_model.specs.Header.{readHeader}
-use Rattle.pair_model.specs.Unit.{State, state, nothing, halves, idle, leastOutput, beginConditions, begin, readsFile, stepConditions, takeDeal, step}
+use Rattle.pair_model.specs.Unit.{State, state, nothing, halves, idleStage, doneStage, leastOutput, beginConditions, begin, readsFile, stepConditions, takeDeal, step}
 use Rattle.pair_model.specs.Run.{Inputs, WellFormed, runOf, Lent, same, strayOf, start, DeliveredAsSent}
 use Rattle.pair_model.specs.View.{View, events, view}
 use Rattle.pair_model.specs.Theorem.{SameForFixed, Demand3}
-use Rattle.pair_model.specs.Leaky.{small, bareKey, withoutZ, innerMaskDealt, otherKeyShown, refusesAll, dealAgain, secondDeal, numberByKey, tellingNumber, clearedIfRefused, clearingRefusal, wokenIfIdle, wakingUnit}
+use Rattle.pair_model.specs.Leaky.{small, bareKey, withoutZ, innerMaskDealt, otherKeyShown, refusesAll, dealAgain, secondDeal, numberByKey, tellingNumber, clearedIfRefused, clearingRefusal, takenAt, takesAt, refusedBeginning}
 use Rattle.pair_model.proofs.Theorem.Pairing.{innerOf}
 use Rattle.pair_model.proofs.Evidence.Small.{zero-one, small-linear, bytes-one, smallInputs, small-well, zero-tape}
 use Rattle.pair_model.proofs.Evidence.Leaky.{sent, bare-key}
@@ -100,6 +100,9 @@ second-deal-fails d = two-three (d .threeFrames .counts waiting (dealOfZeros ∷
 
 -- ---- a refusal that tells, or does, too much
 
+one-zero : ¬ (_≡_ {A = ℕ} 1 0)
+one-zero e = omega arith
+
 -- an empty frame
 abbrev noFrame : Lent
 noFrame = record { frame = []; file = []; outputLength = 8 }
@@ -121,9 +124,27 @@ clearing-refusal-fails d =
     zero-one [] [] (ap (λ (u : State). u .secrets .key)
     (d .threeFrames .refusal (state (parameters 0 1) openKind (halves small (1 ∷ []) (0 ∷ []))) noFrame (λ e. omega (arith, e)) .1))
 
-pub waking-unit-fails : ¬ Demand3 (wakingUnit small)
-unfolding wokenIfIdle
-waking-unit-fails d = one-zero (d .threeFrames .idle (idle small) (noFrame ∷ []) refl)
+-- ---- a frame where none is waited for
+
+abbrev at : ℕ → State
+at stage = state (parameters 0 1) stage (nothing small)
+
+pub idle-takes-fails : ¬ Demand3 (takesAt small idleStage)
+unfolding takenAt
+idle-takes-fails d = one-zero (d .threeFrames .idle (at idleStage) (noFrame ∷ []) refl)
+
+pub done-takes-fails : ¬ Demand3 (takesAt small doneStage)
+unfolding takenAt
+done-takes-fails d = omega (arith, d .threeFrames .bounded (at doneStage) (noFrame ∷ []) (lit≤ tt))
+
+pub beyond-takes-fails : ¬ Demand3 (takesAt small 5)
+unfolding takenAt
+beyond-takes-fails d = one-zero (d .threeFrames .beyond (at 5) (noFrame ∷ []) (lit< tt))
+
+-- ---- a run that cannot start
+
+pub refused-beginning-fails : ¬ Demand3 (refusedBeginning small)
+refused-beginning-fails d = two-zero (d .correctness (runOf a (zeros 8)) well₁ zero-tape .begins side0)
   where
-    one-zero : ¬ (_≡_ {A = ℕ} 1 0)
-    one-zero e = omega arith
+    two-zero : ¬ (_≡_ {A = ℕ} 2 0)
+    two-zero e = omega arith
