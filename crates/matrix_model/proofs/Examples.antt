@@ -7,7 +7,7 @@ use native.Mathlib.Omega.{arith}
 use Rattle.linear_model.specs.Tables.{every}
 use Rattle.linear_model.specs.Bits.{zeros}
 use Rattle.linear_model.proofs.Strings.{getD-zeros, length-zeros}
-use Rattle.numbers.proofs.Numbers.{equal, first-pass, first-holds}
+use Rattle.numbers.specs.Number.{first}
 use lib.Dec.{lit<}
 use lib.ListN.{length}
 use lib.Seq.{take-all}
@@ -88,8 +88,5 @@ file-laid-out = ap not (go (every 12 (laidOutBlock matrixB (zeros 6144))) refl)
         ∙ every-holds 12 (laidOutBlock matrixB (zeros 6144)) e 0 (lit< tt)))
 
 pub example-12 : (checkHolds (zeros 512) ≡ true) × (checkNumber (zeros fileBytes) ≡ 9)
-unfolding checkNumber faults
-example-12 = (
-  zeros-checked,
-  first-pass 1 _ _ (ap not (equal (length (zeros 6144)) 6144 (length-zeros 6144))) ∙ first-pass 8 _ _ file-checked ∙ first-holds 9 _ _ file-laid-out,
-)
+unfolding checkNumber faults first
+example-12 = (zeros-checked, rw (file-checked, file-laid-out))

@@ -20,18 +20,6 @@ use Rattle.pair_model.specs.Theorem.{SameForFixed}
 use Rattle.pair_model.proofs.Theorem.TapeParts.{partsOf}
 use Rattle.pair_model.proofs.Theorem.Pairing.{innerOf, zOf, rOf, Kept}
 
--- a mask has the length of the inner vector, whatever the product gives
-pub bytes-mask-of : (S : Scheme) (file : List ℕ) (side : ℕ) (K̂ x̂ K̃ x̃ z : List ℕ) → Bytes (S .innerBytes) (maskOf S file side K̂ x̂ K̃ x̃ z)
-unfolding maskOf
-bytes-mask-of S file side K̂ x̂ K̃ x̃ z = pick (eqb side 0) _ _ _
-  where
-    n : ℕ
-    n = S .innerBytes
-
-    pick : (b : Bool) (a c d : List ℕ) → Bytes n (cond b (addBits n (addBits n a c) d) (addBits n a c))
-    pick true a c d = bytes-add n (addBits n a c) d
-    pick false a c d = bytes-add n a c
-
 module _ (S : Scheme) (a : Inputs) (tape : List ℕ) where
   -- what side i opens: its halves under its masks
   abbrev pub openKey : Side → List ℕ
@@ -49,10 +37,6 @@ module _ (S : Scheme) (a : Inputs) (tape : List ℕ) where
   -- the code share of side i
   unfoldable pub share : Side → List ℕ
   share i = shareOf S (a .file) (sideByte i) (total (S .innerBytes) mask) (r S tape i)
-
-  pub bytes-mask : (i : Side) → Bytes (S .innerBytes) (mask i)
-  unfolding mask
-  bytes-mask i = bytes-mask-of S (a .file) (sideByte i) _ _ _ _ _
 
 -- ---- two products make ŵi
 
@@ -81,6 +65,24 @@ module _ (S : Scheme) (L : Linear S) (file : List ℕ) where
           ap (λ (p : List ℕ). p +₂ times K̃ x̂ +₂ z) (L .bilinear file .right K̂ x̃ x̂)
           ∙ last-first (S .innerBytes) (times K̂ x̃) (times K̃ x̂) z (times K̂ x̂)
       pick false = refl
+
+-- ---- their lengths
+
+-- a mask has the length of the inner vector, whatever the product gives
+pub bytes-mask-of : (S : Scheme) (file : List ℕ) (side : ℕ) (K̂ x̂ K̃ x̃ z : List ℕ) → Bytes (S .innerBytes) (maskOf S file side K̂ x̂ K̃ x̃ z)
+unfolding maskOf
+bytes-mask-of S file side K̂ x̂ K̃ x̃ z = pick (eqb side 0) _ _ _
+  where
+    n : ℕ
+    n = S .innerBytes
+
+    pick : (b : Bool) (a c d : List ℕ) → Bytes n (cond b (addBits n (addBits n a c) d) (addBits n a c))
+    pick true a c d = bytes-add n (addBits n a c) d
+    pick false a c d = bytes-add n a c
+
+pub bytes-mask : (S : Scheme) (a : Inputs) (tape : List ℕ) (i : Side) → Bytes (S .innerBytes) (mask S a tape i)
+unfolding mask
+bytes-mask S a tape i = bytes-mask-of S (a .file) (sideByte i) _ _ _ _ _
 
 -- ---- ŵ is w under its mask
 
