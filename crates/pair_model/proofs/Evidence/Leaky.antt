@@ -6,7 +6,7 @@ use mathlib.Core.List.{List, [], _∷_, _++_}
 use mathlib.Core.Bool.{cond}
 use native.Mathlib.Omega.{arith}
 use native.Mathlib.Nat.{le-refl}
-use lib.Dec.{eqb, lit<}
+use lib.Dec.{eqb}
 use lib.ListN.{length, getD}
 use lib.Seq.{take-at}
 use Rattle.linear_model.specs.Bits.{zeros}
@@ -20,7 +20,7 @@ use Rattle.pair_model.specs.Theorem.{SameForFixed, Hides, Privacy}
 use Rattle.pair_model.proofs.Theorem.Stages.{parametersAt, incoming, unitAt, accepts-deal}
 use Rattle.pair_model.proofs.Theorem.Configurations.{configurationAt, start-at}
 use Rattle.pair_model.specs.Leaky.{small, stepBy, takeDealBare, bareKey}
-use Rattle.pair_model.proofs.Evidence.Small.{zero-one, small-linear, smallInputs, small-well, zero-tape}
+use Rattle.pair_model.proofs.Evidence.Small.{a, b, well₁, well₂, same-for, zero-one, small-linear, zero-tape}
 
 -- with the unit's own ways a step is the unit's step
 pub step-by-own : (S : Scheme) → stepBy S (takeDeal S) (takeOpen S) ≡ step S
@@ -156,7 +156,4 @@ bare-key-leaks S L a b well₁ well₂ g differ tape h privacy =
 
 -- at the small scheme: key halves 0 and 1 of side 1
 pub bare-key : ¬ Privacy (bareKey small)
-bare-key =
-    bare-key-leaks small small-linear (smallInputs 0 0 1 0) (smallInputs 0 1 1 0)
-    (small-well 0 0 1 0 (lit< tt) (lit< tt) (lit< tt) (lit< tt)) (small-well 0 1 1 0 (lit< tt) (lit< tt) (lit< tt) (lit< tt))
-    (record { key = refl; label = refl; session = refl; file = refl }) (zero-one [] []) (zeros 8) zero-tape
+bare-key = bare-key-leaks small small-linear a b well₁ well₂ same-for (zero-one [] []) (zeros 8) zero-tape

@@ -15,6 +15,7 @@ use Rattle.numbers.specs.Number.{first}
 use Rattle.pair_model.specs.Scheme.{Linear, Side, side0, side1, fileNumber, field}
 use Rattle.pair_model.specs.Tape.{r0, Accepted}
 use Rattle.pair_model.specs.Run.{Inputs, WellFormed}
+use Rattle.pair_model.specs.Theorem.{SameForFixed}
 use Rattle.pair_model.specs.Sample.{ofSides}
 use Rattle.pair_model.specs.Leaky.{small}
 
@@ -58,3 +59,23 @@ zero-one s t e = number (ap (λ (v : List ℕ). getD v 0 0) e)
   where
     number : ¬ (_≡_ {A = ℕ} 0 1)
     number q = omega arith
+
+-- two inputs that differ in the key half of side 1, 0 and 1, and so in the inner vector
+abbrev pub a : Inputs
+a = smallInputs 0 0 1 0
+
+-- the second
+abbrev pub b : Inputs
+b = smallInputs 0 1 1 0
+
+-- both are well formed
+pub well₁ : WellFormed small a
+well₁ = small-well 0 0 1 0 (lit< tt) (lit< tt) (lit< tt) (lit< tt)
+
+-- the second too
+pub well₂ : WellFormed small b
+well₂ = small-well 0 1 1 0 (lit< tt) (lit< tt) (lit< tt) (lit< tt)
+
+-- and the same for side 0
+pub same-for : SameForFixed side0 a b
+same-for = record { key = refl; label = refl; session = refl; file = refl }

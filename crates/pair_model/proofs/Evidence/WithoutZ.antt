@@ -3,7 +3,6 @@ use Prim.Native.Nat.{ℕ}
 use mathlib.Core.Path.{_≡_, refl, sym, ap, ap₂, _∙_}
 use mathlib.Core.List.{List, [], _∷_}
 use mathlib.Core.Bool.{cond}
-use lib.Dec.{lit<}
 use Rattle.linear_model.specs.Bits.{Bytes, zeros, fromBits, bit, pack, addBits}
 use Rattle.linear_model.specs.Tables.{tabulate, sum}
 use Rattle.linear_model.specs.Products.{bitProduct}
@@ -11,29 +10,15 @@ use Rattle.linear_model.proofs.Strings.{add-twice, add-comm}
 use Rattle.pair_model.specs.Scheme.{Side, side0, side1, field}
 use Rattle.pair_model.specs.Tape.{Accepted, K̃, x̃}
 use Rattle.pair_model.specs.Frame.{frame, bodyOf, openLayout}
-use Rattle.pair_model.specs.Run.{Inputs, WellFormed, runOf, SharedEntry, same, firstOf, secondOf}
+use Rattle.pair_model.specs.Run.{runOf, SharedEntry, same, firstOf, secondOf}
 use Rattle.pair_model.specs.View.{View, events, view}
 use Rattle.pair_model.specs.Theorem.{Hides, Privacy}
 use Rattle.pair_model.proofs.Theorem.TapeParts.{whole-parts}
 use Rattle.pair_model.proofs.Theorem.MaskLaws.{openKey, openLabel}
-use Rattle.pair_model.proofs.Evidence.Small.{zero-one, small-linear, smallInputs, small-well, zero-tape}
+use Rattle.pair_model.proofs.Evidence.Small.{a, b, well₁, well₂, same-for, zero-one, small-linear, zero-tape}
 use Rattle.pair_model.specs.Leaky.{small, maskWithoutZ, withoutZ}
 use Rattle.pair_model.proofs.Evidence.Leaky.{sent, eventAt}
 use Rattle.pair_model.proofs.Evidence.LeakyMask.{opened, v₀, v₁, v₂, v₃, v₄, own-open, other-open, other-mask}
-
--- ---- the small scheme, with key halves 0 and 1 of side 1, x̂ = 1 and the tape of zeros
-
-abbrev a : Inputs
-a = smallInputs 0 0 1 0
-
-abbrev b : Inputs
-b = smallInputs 0 1 1 0
-
-well₁ : WellFormed small a
-well₁ = small-well 0 0 1 0 (lit< tt) (lit< tt) (lit< tt) (lit< tt)
-
-well₂ : WellFormed small b
-well₂ = small-well 0 1 1 0 (lit< tt) (lit< tt) (lit< tt) (lit< tt)
 
 -- what side 0 sees in two runs over which it has the same view
 record Equal (u : List ℕ) : Type 0 where
@@ -133,5 +118,5 @@ impossible u hu q = different (q .masks ∙ (λ j. maskWithoutZ small (a .file) 
 pub without-z : ¬ Privacy (withoutZ small)
 unfolding u
 without-z privacy =
-    let H = privacy side0 a b well₁ well₂ (record { key = refl; label = refl; session = refl; file = refl }) in
+    let H = privacy side0 a b well₁ well₂ same-for in
     impossible (H .pairing .forth (zeros 8)) (hu H) (equal H)

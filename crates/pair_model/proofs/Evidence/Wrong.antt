@@ -14,31 +14,15 @@ use Rattle.pair_model.specs.Scheme.{side0, side1, field}
 use Rattle.pair_model.specs.Frame.{parameters, openKind, frame}
 use Rattle.pair_model.specs.Header.{readHeader}
 use Rattle.pair_model.specs.Unit.{State, state, nothing, halves, idleStage, doneStage, leastOutput, beginConditions, begin, readsFile, stepConditions, takeDeal, step}
-use Rattle.pair_model.specs.Run.{Inputs, WellFormed, runOf, Lent, same, strayOf, start, DeliveredAsSent}
+use Rattle.pair_model.specs.Run.{runOf, Lent, same, strayOf, start, DeliveredAsSent}
 use Rattle.pair_model.specs.View.{View, events, view}
-use Rattle.pair_model.specs.Theorem.{SameForFixed, Demand3}
+use Rattle.pair_model.specs.Theorem.{Demand3}
 use Rattle.pair_model.specs.Leaky.{small, bareKey, withoutZ, innerMaskDealt, otherKeyShown, refusesAll, dealAgain, secondDeal, numberByKey, tellingNumber, clearedIfRefused, clearingRefusal, takenAt, takesAt, refusedBeginning}
 use Rattle.pair_model.proofs.Theorem.Pairing.{innerOf}
-use Rattle.pair_model.proofs.Evidence.Small.{zero-one, small-linear, bytes-one, smallInputs, small-well, zero-tape}
+use Rattle.pair_model.proofs.Evidence.Small.{a, b, well₁, well₂, same-for, zero-one, small-linear, bytes-one, zero-tape}
 use Rattle.pair_model.proofs.Evidence.Leaky.{sent, bare-key}
 use Rattle.pair_model.proofs.Evidence.WithoutZ.{without-z}
 use Rattle.pair_model.proofs.Evidence.LeakyDealer.{inner-mask-leaks}
-
--- two inputs of the small scheme: key halves 0 and 1 of side 1, and so inner vectors 0 and 1
-abbrev a : Inputs
-a = smallInputs 0 0 1 0
-
-abbrev b : Inputs
-b = smallInputs 0 1 1 0
-
-well₁ : WellFormed small a
-well₁ = small-well 0 0 1 0 (lit< tt) (lit< tt) (lit< tt) (lit< tt)
-
-well₂ : WellFormed small b
-well₂ = small-well 0 1 1 0 (lit< tt) (lit< tt) (lit< tt) (lit< tt)
-
-same-for : SameForFixed side0 a b
-same-for = record { key = refl; label = refl; session = refl; file = refl }
 
 -- ---- leaks
 
