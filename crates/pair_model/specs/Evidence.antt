@@ -8,7 +8,7 @@ use Rattle.numbers.specs.Number.{_when_, first}
 use Rattle.numbers.specs.Lowest.{Lowest}
 use Rattle.pair_model.specs.Scheme.{Side, other}
 use Rattle.pair_model.specs.Tape.{Accepted}
-use Rattle.pair_model.specs.Unit.{idleStage, doneStage}
+use Rattle.pair_model.specs.Unit.{idleStage, doneStage, takeDeal, takeOpen, step}
 use Rattle.pair_model.specs.Base.{base}
 use Rattle.pair_model.specs.Sampler.{sampled, sampleNumber}
 use Rattle.pair_model.specs.Dealer.{TakesAccepted}
@@ -17,7 +17,7 @@ use Rattle.pair_model.specs.Theorem.{SameForFixed, Hides, Done, shareFra
 use Rattle.pair_model.specs.Lowest.{LowestNumbers}
 use Rattle.pair_model.specs.Examples.{TwelveExamples}
 use Rattle.pair_model.specs.Sample.{SampleCompared}
-use Rattle.pair_model.specs.Leaky.{small, bareKey, withoutZ, innerMaskDealt, otherKeyShown, emptyMask, halfForMask, copiedMask, refusesAll, secondDeal, tellingNumber, clearingRefusal, takesAt, refusedBeginning}
+use Rattle.pair_model.specs.Leaky.{small, stepBy, bareKey, withoutZ, innerMaskDealt, otherKeyShown, emptyMask, halfForMask, copiedMask, refusesAll, secondDeal, tellingNumber, clearingRefusal, takesAt, refusedBeginning}
 
 -- every entry shared
 abbrev pub shared : List Entry → List SharedEntry
@@ -49,7 +49,9 @@ pub record Evidence : Type 0 where
       → sampleNumber base source outputLength ≡ 0 → Accepted base (sampled base source)
   -- the code tells no more than itself
   pub share : (fixed : Side) (a b : Inputs) → WellFormed base a → WellFormed base b → SameForFixed fixed a b → HidesShare (protocol base) fixed a b
-  -- leaky and wrong protocols do not pass
+  -- leaky and wrong protocols do not pass, in a scheme in which the protocol does; a step by the unit's own ways is the unit's
+  pub passes : Demand3 (protocol small)
+  pub ownStep : stepBy small (takeDeal small) (takeOpen small) ≡ step small
   pub bareKey : ¬ Demand3 (bareKey small)
   pub withoutZ : ¬ Demand3 (withoutZ small)
   pub innerMaskDealt : ¬ Demand3 (innerMaskDealt small)

@@ -23,9 +23,9 @@ use Rattle.pair_model.specs.Leaky.{small, stepBy, takeDealBare, bareKey}
 use Rattle.pair_model.proofs.Evidence.Small.{a, b, well₁, well₂, same-for, zero-one, small-linear, zero-tape}
 
 -- with the unit's own ways a step is the unit's step
-pub step-by-own : (S : Scheme) → stepBy S (takeDeal S) (takeOpen S) ≡ step S
+pub own-step : stepBy small (takeDeal small) (takeOpen small) ≡ step small
 unfolding stepBy step advance
-step-by-own S = refl
+own-step = refl
 
 -- ---- entries by what their steps give
 

@@ -4,13 +4,16 @@ use Rattle.pair_model.specs.Run.{protocol}
 use Rattle.pair_model.specs.Base.{base}
 use Rattle.pair_model.specs.Theorem.{Correctness, Privacy, ThreeFrames}
 use Rattle.pair_model.specs.Evidence.{Evidence}
-use Rattle.pair_model.proofs.Theorem.Main.{private, base-linear, base-demand3}
+use Rattle.pair_model.proofs.Theorem.Main.{private, demand3, base-linear, base-demand3}
 use Rattle.pair_model.proofs.Evidence.Lowest.{lowest-numbers}
 use Rattle.pair_model.proofs.Evidence.Examples.{twelve-examples}
 use Rattle.pair_model.proofs.Evidence.Sample.{sample-compared}
 use Rattle.pair_model.proofs.Evidence.Strays.{shared-comparable}
 use Rattle.pair_model.proofs.Evidence.Dealing.{deal-accepted, sampled-accepted}
 use Rattle.pair_model.proofs.Evidence.OtherShare.{other-share-frame}
+use Rattle.pair_model.specs.Leaky.{small}
+use Rattle.pair_model.proofs.Evidence.Small.{small-linear}
+use Rattle.pair_model.proofs.Evidence.Leaky.{own-step}
 use Rattle.pair_model.proofs.Evidence.Wrong.{bare-key-fails, without-z-fails, inner-mask-fails, other-key-fails, refuses-all-fails, second-deal-fails, telling-number-fails, clearing-refusal-fails, idle-takes-fails, done-takes-fails, beyond-takes-fails, refused-beginning-fails}
 use Rattle.pair_model.proofs.Evidence.WrongMask.{empty-mask-fails, half-for-mask-fails, copied-mask-fails}
 
@@ -27,6 +30,8 @@ evidence =
       share =
           λ fixed a b well₁ well₂ g.
           record { hides = private base base-linear fixed a b well₁ well₂ g; share = other-share-frame base base-linear fixed a b well₁ well₂ g };
+      passes = demand3 small small-linear;
+      ownStep = own-step;
       bareKey = bare-key-fails;
       withoutZ = without-z-fails;
       innerMaskDealt = inner-mask-fails;
