@@ -7,7 +7,9 @@ pub mod Strays
 pub mod Leaky
 pub mod LeakyMask
 pub mod WithoutZ
+pub mod OtherTape
 pub mod LeakyDealer
+pub mod Uneven
 pub mod Wrong
 pub mod WrongMask
 pub mod BytesE4

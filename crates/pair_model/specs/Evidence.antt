@@ -17,7 +17,7 @@ use Rattle.pair_model.specs.Theorem.{SameForFixed, Hides, Done, shareFra
 use Rattle.pair_model.specs.Lowest.{LowestNumbers}
 use Rattle.pair_model.specs.Examples.{TwelveExamples}
 use Rattle.pair_model.specs.Sample.{SampleCompared}
-use Rattle.pair_model.specs.Leaky.{small, stepBy, bareKey, withoutZ, innerMaskDealt, otherKeyShown, emptyMask, halfForMask, copiedMask, refusesAll, secondDeal, tellingNumber, clearingRefusal, takesAt, refusedBeginning}
+use Rattle.pair_model.specs.Leaky.{small, stepBy, bareKey, withoutZ, innerMaskDealt, unevenMaskDealt, otherKeyShown, emptyMask, halfForMask, copiedMask, refusesAll, secondDeal, tellingNumber, clearingRefusal, takesAt, refusedBeginning}
 
 -- every entry shared
 abbrev pub shared : List Entry → List SharedEntry
@@ -55,6 +55,7 @@ pub record Evidence : Type 0 where
   pub bareKey : ¬ Demand3 (bareKey small)
   pub withoutZ : ¬ Demand3 (withoutZ small)
   pub innerMaskDealt : ¬ Demand3 (innerMaskDealt small)
+  pub unevenMaskDealt : ¬ Demand3 (unevenMaskDealt small)
   pub otherKeyShown : ¬ Demand3 (otherKeyShown small)
   pub emptyMask : ¬ Demand3 (emptyMask small)
   pub halfForMask : ¬ Demand3 (halfForMask small)

@@ -1,12 +1,12 @@
 -- Protocols that must not pass: each is the protocol with one part exchanged.
-use Prim.Native.Nat.{ℕ, suc, _+_}
+use Prim.Native.Nat.{ℕ, suc, _+_, _*_, _/_}
 use mathlib.Core.List.{List, [], _∷_}
 use mathlib.Core.Bool.{cond, false, _&&_}
 use lib.Dec.{eqb}
 use Rattle.linear_model.specs.Bits.{bit, addBits}
 use Rattle.linear_model.specs.Products.{circulantProduct}
 use Rattle.pair_model.specs.Scheme.{Scheme, Side, side0, side1, other, field, concat}
-use Rattle.pair_model.specs.Tape.{K̃, x̃, w̃, r0, dealLayout}
+use Rattle.pair_model.specs.Tape.{K̃, x̃, w̃, z0, r0, dealLayout}
 use Rattle.pair_model.specs.Frame.{dealKind, openKind, maskKind, frame, kindOf, bodyOf, openLayout}
 use Rattle.pair_model.specs.Unit.{State, state, Stepped, refused, nothing, K̂, x̂, withDeal, withMask, addIfSide0, stepNumber, takeDeal, takeOpen, takeMask, step}
 use Rattle.pair_model.specs.Dealer.{dealFrame}
@@ -25,6 +25,11 @@ small =
       faults = λ file. [];
       rows = λ file. file;
     }
+
+-- a string with its bit 0 cleared
+abbrev pub withoutBit0 : List ℕ → List ℕ
+withoutBit0 [] = []
+withoutBit0 (x ∷ s) = x / 2 * 2 ∷ s
 
 module _ (S : Scheme) where
   -- the protocol with another step
@@ -66,20 +71,33 @@ module _ (S : Scheme) where
   abbrev pub withoutZ : Protocol
   withoutZ = withStep (stepBy (takeDeal S) takeOpenWithoutZ)
 
-  -- ---- a dealer that puts w̃ in a deal: in the place of z0, so that the codes are right
+  -- ---- dealers that deal by another tape than the one given
 
+  abbrev pub dealtBy : (List ℕ → List ℕ) → Protocol
+  dealtBy change =
+      record {
+        scheme = S;
+        deal = λ session file tape. dealFrame S session file (change tape);
+        beginning = protocol S .beginning;
+        step = step S;
+      }
+
+  -- one that puts w̃ in a deal: in the place of z0, so that the codes are right
   unfoldable pub withInnerMask : List ℕ → List ℕ
   withInnerMask tape =
       concat (K̃ S tape side0 ∷ K̃ S tape side1 ∷ x̃ S tape side0 ∷ x̃ S tape side1 ∷ w̃ S tape ∷ w̃ S tape ∷ r0 S tape ∷ [])
 
   abbrev pub innerMaskDealt : Protocol
-  innerMaskDealt =
-      record {
-        scheme = S;
-        deal = λ session file tape. dealFrame S session file (withInnerMask tape);
-        beginning = protocol S .beginning;
-        step = step S;
-      }
+  innerMaskDealt = dealtBy withInnerMask
+
+  -- one that uses K̃1 unevenly: its bit 0 is kept only where bit 0 of K̃0 is set, which is cleared; each K̃1 occurs, with bit 0 in one tape of four
+  unfoldable pub withUnevenMask : List ℕ → List ℕ
+  withUnevenMask tape =
+      concat (withoutBit0 (K̃ S tape side0) ∷ cond (eqb (bit (K̃ S tape side0) 0) 1) (K̃ S tape side1) (withoutBit0 (K̃ S tape side1))
+      ∷ x̃ S tape side0 ∷ x̃ S tape side1 ∷ w̃ S tape ∷ z0 S tape ∷ r0 S tape ∷ [])
+
+  abbrev pub unevenMaskDealt : Protocol
+  unevenMaskDealt = dealtBy withUnevenMask
 
   -- ---- a beginning whose state shows the other's key half, where the deal's K̃ will stand
 

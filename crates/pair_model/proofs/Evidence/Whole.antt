@@ -14,7 +14,7 @@ use Rattle.pair_model.proofs.Evidence.OtherShare.{other-share-frame}
 use Rattle.pair_model.specs.Leaky.{small}
 use Rattle.pair_model.proofs.Evidence.Small.{small-linear}
 use Rattle.pair_model.proofs.Evidence.Leaky.{own-step}
-use Rattle.pair_model.proofs.Evidence.Wrong.{bare-key-fails, without-z-fails, inner-mask-fails, other-key-fails, refuses-all-fails, second-deal-fails, telling-number-fails, clearing-refusal-fails, idle-takes-fails, done-takes-fails, beyond-takes-fails, refused-beginning-fails}
+use Rattle.pair_model.proofs.Evidence.Wrong.{bare-key-fails, without-z-fails, inner-mask-fails, uneven-mask-fails, other-key-fails, refuses-all-fails, second-deal-fails, telling-number-fails, clearing-refusal-fails, idle-takes-fails, done-takes-fails, beyond-takes-fails, refused-beginning-fails}
 use Rattle.pair_model.proofs.Evidence.WrongMask.{empty-mask-fails, half-for-mask-fails, copied-mask-fails}
 
 pub evidence : Evidence
@@ -35,6 +35,7 @@ evidence =
       bareKey = bare-key-fails;
       withoutZ = without-z-fails;
       innerMaskDealt = inner-mask-fails;
+      unevenMaskDealt = uneven-mask-fails;
       otherKeyShown = other-key-fails;
       emptyMask = empty-mask-fails;
       halfForMask = half-for-mask-fails;

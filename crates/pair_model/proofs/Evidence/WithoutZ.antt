@@ -87,7 +87,7 @@ module _ (H : Hides (withoutZ small) side0 a b) where
       }
 
 -- a byte that adds with x to y is y + x
-apart : (k x y : List ℕ) → Bytes 1 k → y ≡ addBits 1 x k → k ≡ addBits 1 y x
+pub apart : (k x y : List ℕ) → Bytes 1 k → y ≡ addBits 1 x k → k ≡ addBits 1 y x
 apart k x y h e = sym (add-twice 1 k x h) ∙ ap (λ (s : List ℕ). addBits 1 s x) (add-comm 1 k x ∙ sym e)
 
 abbrev w : (K̂ x̂ K̃ x̃ : ℕ) → List ℕ

@@ -17,12 +17,13 @@ use Rattle.pair_model.specs.Unit.{State, state, nothing, halves, idleSta
 use Rattle.pair_model.specs.Run.{runOf, Lent, same, strayOf, start, DeliveredAsSent}
 use Rattle.pair_model.specs.View.{View, events, view}
 use Rattle.pair_model.specs.Theorem.{Demand3}
-use Rattle.pair_model.specs.Leaky.{small, bareKey, withoutZ, innerMaskDealt, otherKeyShown, refusesAll, dealAgain, secondDeal, numberByKey, tellingNumber, clearedIfRefused, clearingRefusal, takenAt, takesAt, refusedBeginning}
+use Rattle.pair_model.specs.Leaky.{small, bareKey, withoutZ, innerMaskDealt, unevenMaskDealt, otherKeyShown, refusesAll, dealAgain, secondDeal, numberByKey, tellingNumber, clearedIfRefused, clearingRefusal, takenAt, takesAt, refusedBeginning}
 use Rattle.pair_model.proofs.Theorem.Pairing.{innerOf}
 use Rattle.pair_model.proofs.Evidence.Small.{a, b, well₁, well₂, same-for, zero-one, small-linear, bytes-one, zero-tape}
 use Rattle.pair_model.proofs.Evidence.Leaky.{sent, bare-key}
 use Rattle.pair_model.proofs.Evidence.WithoutZ.{without-z}
 use Rattle.pair_model.proofs.Evidence.LeakyDealer.{inner-mask-leaks}
+use Rattle.pair_model.proofs.Evidence.Uneven.{uneven-mask}
 
 -- ---- leaks
 
@@ -44,6 +45,9 @@ pub inner-mask-fails : ¬ Demand3 (innerMaskDealt small)
 inner-mask-fails d =
     inner-mask-leaks small small-linear a b well₁ well₂ same-for (subst (Bytes 1) (sym inner₁) (bytes-one 0 (lit< tt)))
     (subst (Bytes 1) (sym inner₂) (bytes-one 1 (lit< tt))) (λ e. zero-one [] [] (sym inner₁ ∙ e ∙ inner₂)) (zeros 8) zero-tape (d .privacy)
+
+pub uneven-mask-fails : ¬ Demand3 (unevenMaskDealt small)
+uneven-mask-fails d = uneven-mask (d .privacy)
 
 -- the state it is begun with shows the other's key half, before any step
 pub other-key-fails : ¬ Demand3 (otherKeyShown small)
