@@ -24,3 +24,12 @@ quietly() {
         exit "$status"
     fi
 }
+
+# library NAME: target/staticlib/libNAME.a, proved and built unless it is there and newer than every file of every crate
+library() {
+    built=target/staticlib/lib$1.a
+    if [ -f "$built" ] && [ -z "$(find crates crates.txt -type f -newer "$built" | head -n 1)" ]; then return; fi
+    need rt "$INSTALL_RT"
+    say "proving and building $built: some minutes, the first time"
+    quietly rt staticlib "$1"
+}
