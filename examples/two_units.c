@@ -9,7 +9,8 @@
  * So that the codes can be compared, this process also plays the owners, who hand each unit its halves.
  * A real dealer or counter never sees a half, and the two units are at two owners. */
 #define _POSIX_C_SOURCE 200809L
-#include "numbers.h"
+#include "service_pair.h"
+#include "service_pair_text.h"
 
 #include <errno.h>
 #include <stdio.h>
@@ -23,10 +24,37 @@
 /* A host counts its sessions, and uses no number twice. */
 enum { SESSION = 1 };
 
+/* All that is secret in this process, in one place, so that every way out of it wipes it. Each process has
+ * its own: the units are started before anything is drawn. A message has room for a byte more than it may
+ * have, so that one that is too long is seen to be, and the library refuses it. */
+static struct {
+    /* the owners' */
+    uint8_t keys[2][PAIR_KEY_BYTES], labels[2][PAIR_LABEL_BYTES], key[PAIR_KEY_BYTES], label[PAIR_LABEL_BYTES];
+    /* the dealer's */
+    uint8_t source[PAIR_SOURCE_BYTES], dealt[PAIR_DEALT_BYTES];
+    /* a unit's */
+    uint8_t key_half[PAIR_KEY_BYTES + 1], label_half[PAIR_LABEL_BYTES + 1], state[PAIR_STATE_BYTES];
+    uint8_t frame[PAIR_DEAL_FRAME_BYTES + 1];
+} secret;
+
+static void wipe_secret(void)
+{
+    pair_wipe(&secret, sizeof secret);
+}
+
 static void fail(const char *what)
 {
     perror(what);
     exit(2);
+}
+
+/* Ends the process with 1 and a sentence where a call was refused. */
+static void expect_ok(const char *what, uint32_t number)
+{
+    if (number == PAIR_OK)
+        return;
+    fprintf(stderr, "%s refused with %u: %s\n", what, (unsigned)number, pair_number_text(number));
+    exit(1);
 }
 
 static void draw(uint8_t *bytes, size_t n)
@@ -53,7 +81,7 @@ static void send_bytes(int to, const uint8_t *bytes, size_t n)
         fail("send");
 }
 
-/* A message that is longer than the room arrives cut; the library refuses what is not a frame. */
+/* A message that is longer than the room arrives cut to it: still a byte longer than any that is fit. */
 static size_t receive(int from, uint8_t *bytes, size_t room)
 {
     ssize_t n = recv(from, bytes, room, 0);
@@ -65,28 +93,37 @@ static size_t receive(int from, uint8_t *bytes, size_t room)
 /* One unit: three frames in, three frames out. It shows nothing of what it holds. */
 static void unit(uint32_t side, int home, int other)
 {
-    uint8_t key_half[PAIR_KEY_BYTES], label_half[PAIR_LABEL_BYTES], file[PAIR_FILE_BYTES];
-    size_t key_n = receive(home, key_half, sizeof key_half);
-    size_t label_n = receive(home, label_half, sizeof label_half);
+    uint8_t file[PAIR_FILE_BYTES + 1], out[PAIR_STEP_OUTPUT_BYTES];
+    size_t key_n = receive(home, secret.key_half, sizeof secret.key_half);
+    size_t label_n = receive(home, secret.label_half, sizeof secret.label_half);
     size_t file_n = receive(home, file, sizeof file);
+    /* The step with the mask frame judges it too, but then two frames have been sent already. */
+    expect_ok("matrix file", pair_matrix_check(file, file_n));
 
-    uint8_t state[PAIR_STATE_BYTES];
-    expect_done("beginning", pair_begin(side, SESSION, key_half, key_n, label_half, label_n, state, sizeof state));
-    for (int step = 0; step < 3; step++) {
+    const char *what = "beginning";
+    uint32_t number = pair_begin(side, SESSION, secret.key_half, key_n, secret.label_half, label_n, secret.state,
+                                 sizeof secret.state);
+    /* From here on the state has the halves. */
+    pair_wipe(secret.key_half, sizeof secret.key_half);
+    pair_wipe(secret.label_half, sizeof secret.label_half);
+    for (int step = 0; number == PAIR_OK && step < 3; step++) {
         /* The deal comes from the dealer and the share goes to the counter; else it is unit to unit. */
         int from = step == 0 ? home : other;
         int to = step == 2 ? home : other;
-        /* The longest frame, and a byte more: one that is too long is seen to be. */
-        uint8_t frame[PAIR_DEAL_FRAME_BYTES + 1], out[PAIR_STEP_OUTPUT_BYTES];
         uint64_t written;
-        size_t n = receive(from, frame, sizeof frame);
-        expect_done("step", pair_step(state, sizeof state, frame, n, file, file_n, out, sizeof out, &written));
-        send_bytes(to, out, (size_t)written);
+        what = "step";
+        size_t n = receive(from, secret.frame, sizeof secret.frame);
+        number = pair_step(secret.state, sizeof secret.state, secret.frame, n, file, file_n, out, sizeof out, &written);
+        if (number == PAIR_OK)
+            send_bytes(to, out, (size_t)written);
     }
+    pair_wipe_stack();
+    expect_ok(what, number);
     exit(0);
 }
 
-/* A public matrix for the show. The last 64 bytes of a tape are 256 uniform trits: a row. */
+/* A public matrix for the show. The last 64 bytes of a tape are 256 uniform trits: a row. No dealer uses
+ * these tapes, so they are no secret. */
 static void draw_matrix(uint8_t file[PAIR_FILE_BYTES])
 {
     enum { ROW = 64 };
@@ -94,10 +131,10 @@ static void draw_matrix(uint8_t file[PAIR_FILE_BYTES])
     uint64_t used;
     for (size_t at = 0; at < sizeof rows; at += ROW) {
         draw(source, sizeof source);
-        expect_done("sampler", pair_sample(source, sizeof source, tape, sizeof tape, &used));
+        expect_ok("sampler", pair_sample(source, sizeof source, tape, sizeof tape, &used));
         memcpy(rows + at, tape + sizeof tape - ROW, ROW);
     }
-    expect_done("matrix", pair_matrix_write(rows, sizeof rows, file, PAIR_FILE_BYTES));
+    expect_ok("matrix", pair_matrix_write(rows, sizeof rows, file, PAIR_FILE_BYTES));
 }
 
 /* A unit at one owner's: its socket to this process, and its process. */
@@ -109,12 +146,16 @@ struct place {
 /* The dealer: deal frame i goes to unit i alone. */
 static void deal(const struct place places[2])
 {
-    uint8_t source[PAIR_SOURCE_BYTES], frames[PAIR_DEALT_BYTES];
     uint64_t used;
-    draw(source, sizeof source);
-    expect_done("dealer", pair_deal_source(SESSION, source, sizeof source, frames, sizeof frames, &used));
+    draw(secret.source, sizeof secret.source);
+    uint32_t number = pair_deal_source(SESSION, secret.source, sizeof secret.source, secret.dealt, sizeof secret.dealt,
+                                       &used);
+    pair_wipe_stack();
+    pair_wipe(secret.source, sizeof secret.source);
+    expect_ok("dealer", number);
     for (int side = 0; side < 2; side++)
-        send_bytes(places[side].socket, frames + side * PAIR_DEAL_FRAME_BYTES, PAIR_DEAL_FRAME_BYTES);
+        send_bytes(places[side].socket, secret.dealt + side * PAIR_DEAL_FRAME_BYTES, PAIR_DEAL_FRAME_BYTES);
+    pair_wipe(secret.dealt, sizeof secret.dealt);
 }
 
 static void save(const char *folder, const char *name, const uint8_t *bytes, size_t n)
@@ -169,23 +210,25 @@ static void expect_end(int side, pid_t process)
 static void show(const char *what, const uint8_t code[PAIR_CODE_BYTES])
 {
     char digits[PAIR_CODE_DIGITS + 1];
-    code_digits(code, digits);
+    pair_code_digits(code, digits);
     printf("%s  %s\n", what, digits);
 }
 
 int main(int argc, char **argv)
 {
+    if (atexit(wipe_secret) != 0)
+        fail("atexit");
     struct place places[2];
     start_units(places);
 
     /* The owners. Halves are drawn after the fork: no unit's memory has the other's. */
-    uint8_t file[PAIR_FILE_BYTES], keys[2][PAIR_KEY_BYTES], labels[2][PAIR_LABEL_BYTES];
+    uint8_t file[PAIR_FILE_BYTES];
     draw_matrix(file);
     for (int side = 0; side < 2; side++) {
-        draw(keys[side], PAIR_KEY_BYTES);
-        draw(labels[side], PAIR_LABEL_BYTES);
-        send_bytes(places[side].socket, keys[side], PAIR_KEY_BYTES);
-        send_bytes(places[side].socket, labels[side], PAIR_LABEL_BYTES);
+        draw(secret.keys[side], PAIR_KEY_BYTES);
+        draw(secret.labels[side], PAIR_LABEL_BYTES);
+        send_bytes(places[side].socket, secret.keys[side], PAIR_KEY_BYTES);
+        send_bytes(places[side].socket, secret.labels[side], PAIR_LABEL_BYTES);
         send_bytes(places[side].socket, file, sizeof file);
     }
 
@@ -198,17 +241,19 @@ int main(int argc, char **argv)
         lengths[side] = receive(places[side].socket, shares[side], sizeof shares[side]);
         expect_end(side, places[side].process);
     }
-    expect_done("join", pair_join(shares[0], lengths[0], shares[1], lengths[1], code, sizeof code));
+    expect_ok("join", pair_join(shares[0], lengths[0], shares[1], lengths[1], code, sizeof code));
     show("two units", code);
 
     /* The evaluator, on the sums of the halves. */
-    uint8_t key[PAIR_KEY_BYTES], label[PAIR_LABEL_BYTES], evaluated[PAIR_CODE_BYTES];
+    uint8_t evaluated[PAIR_CODE_BYTES];
     for (size_t i = 0; i < PAIR_KEY_BYTES; i++) {
-        key[i] = keys[0][i] ^ keys[1][i];
-        label[i] = labels[0][i] ^ labels[1][i];
+        secret.key[i] = secret.keys[0][i] ^ secret.keys[1][i];
+        secret.label[i] = secret.labels[0][i] ^ secret.labels[1][i];
     }
-    expect_done("evaluator",
-                pair_evaluate(key, sizeof key, label, sizeof label, file, sizeof file, evaluated, sizeof evaluated));
+    uint32_t number = pair_evaluate(secret.key, sizeof secret.key, secret.label, sizeof secret.label, file, sizeof file,
+                                    evaluated, sizeof evaluated);
+    pair_wipe_stack();
+    expect_ok("evaluator", number);
     show("evaluator", evaluated);
 
     if (argc > 1) {

@@ -2,7 +2,9 @@
  *
  * Every function here is proved to meet its contract, for all inputs (crates/protocol/src/units.rt for
  * pair_begin and pair_step, interface.rt for all others).
- * Link target/staticlib/libprotocol.a, which `rt staticlib protocol` makes; it needs no other library.
+ * Link target/staticlib/libprotocol.a, which `rt staticlib protocol` makes: for x86-64 Linux alone. It needs
+ * `memcpy` of the host, and may need `memset`, and no other library. service_pair_text.h has a text for each
+ * number, a code's digits, and how to wipe what was secret.
  *
  * SLICES. A slice is a pointer and a length. The pointer is never NULL, also where the length is 0, and
  * the memory is the caller's: a function reads or writes it during the call only, and keeps no pointer.
@@ -20,12 +22,55 @@
  *
  * SECRETS. Halves, tapes, sources, deal frames and states are secret, each from everyone but the unit or
  * the dealer whose it is; they are the caller's to keep and to overwrite. Open and mask frames go to the
- * other unit, share frames to the counter. A tape, or a source, is used for one session and never again. */
+ * other unit, share frames to the counter. A tape, or a source, is used for one session and never again.
+ *
+ * STACK. What each call uses at most, arguments and return address included, in KiB, rounded up:
+ *
+ *     pair_matrix_check   0.3     pair_evaluate      0.6     pair_begin             0.3
+ *     pair_matrix_read    0.3     pair_sample        1.0     pair_step, with deal   0.9
+ *     pair_matrix_write   1.3     pair_deal          0.3     .. with open           1.7
+ *     pair_join           0.2     pair_deal_source   1.3     .. with mask           2.2
+ *                                                            pair_run               3.6
+ *
+ * A program that looks for memcpy at its first use (lazy binding) takes about 3.1 KiB more in the first call
+ * that copies, at most 6.0 in all; linked with -z now it does not. Measured, not proved: the library was made
+ * by the toolchain rattle-kit-5b, its callers by GCC 12 and Clang 14. tests/c/stack.c measures the table again.
+ *
+ * Calls do not clear the stack that they used, and copies of secrets stay there until something else is
+ * written over them: after pair_begin one of each half, after the steps with an open and a mask frame four
+ * and two of the key half, after the dealer's calls pieces of the tape. A host overwrites them with
+ * pair_wipe_stack (service_pair_text.h), called from the function that made the calls and after them; then
+ * none was found. What it does not reach are vector registers, which keep pieces until other code uses them,
+ * and what a signal handler has put further down. */
 #ifndef SERVICE_PAIR_H
 #define SERVICE_PAIR_H
 
 #include <stddef.h>
 #include <stdint.h>
+
+/* The version of this interface, as one number that compares: `#if PAIR_VERSION < PAIR_VERSION_OF(1, 2, 0)`.
+ * MAJOR is raised where a host must be looked at again (a parameter, a length, a layout or the meaning of a
+ * number is another), MINOR where a call, a number or a name was added, PATCH where neither is. The library
+ * has no version of its own: header and library are of one build. */
+#define PAIR_VERSION_MAJOR 1
+#define PAIR_VERSION_MINOR 0
+#define PAIR_VERSION_PATCH 0
+#define PAIR_VERSION_OF(major, minor, patch) ((major) * 10000 + (minor) * 100 + (patch))
+#define PAIR_VERSION PAIR_VERSION_OF(PAIR_VERSION_MAJOR, PAIR_VERSION_MINOR, PAIR_VERSION_PATCH)
+
+/* Where the compiler has such markings it warns of a number that nobody looks at, and of a NULL pointer. */
+#if defined(__cplusplus) ? __cplusplus >= 201703L : defined(__STDC_VERSION__) && __STDC_VERSION__ >= 202311L
+#define PAIR_NODISCARD [[nodiscard]]
+#elif defined(__GNUC__)
+#define PAIR_NODISCARD __attribute__((warn_unused_result))
+#else
+#define PAIR_NODISCARD
+#endif
+#if defined(__GNUC__)
+#define PAIR_NONNULL __attribute__((nonnull))
+#else
+#define PAIR_NONNULL
+#endif
 
 /* Bit j of a string is bit j mod 8 (bit 0 lowest) of byte j div 8. Trits are 0, 1 or 2, in two planes,
  * low bits first, then high bits, each packed like bits; both bits of a trit set is unfit. */
@@ -41,6 +86,7 @@
 #define PAIR_STATE_BYTES 262       /* a unit's state: see pair_begin */
 #define PAIR_STEP_OUTPUT_BYTES 70  /* the least output slice of a step, at every stage */
 #define PAIR_INPUT_BYTES 6528      /* pair_run's input */
+#define PAIR_STACK_BYTES 8192      /* more than any call uses of the stack: see STACK */
 
 /* Frames: kind, side, session (four bytes, lowest first), then the body. */
 #define PAIR_HEADER_BYTES 6
@@ -51,8 +97,18 @@
 
 enum pair_kind { PAIR_DEAL = 1, PAIR_OPEN = 2, PAIR_MASK = 3, PAIR_SHARE = 4 };
 
+/* A unit's stage, the first byte of its state: idle, done, or else the kind of frame it waits for. */
+enum pair_stage {
+    PAIR_STAGE_IDLE = 0,
+    PAIR_STAGE_AWAITS_DEAL = 1,
+    PAIR_STAGE_AWAITS_OPEN = 2,
+    PAIR_STAGE_AWAITS_MASK = 3,
+    PAIR_STAGE_DONE = 4
+};
+
 enum pair_number {
-    PAIR_DONE = 0,            /* done */
+    PAIR_OK = 0,              /* done */
+    PAIR_DONE = PAIR_OK,      /* the same under its former name; a stage is called done too */
     PAIR_WRONG_LENGTH = 1,    /* an input other than a frame (half, key, label, tape, row set, matrix file) has another
                                  length than stated, or an output slice is shorter than what may be written */
     PAIR_NO_SIDE = 2,         /* at the beginning, side is neither 0 nor 1 */
@@ -75,27 +131,34 @@ extern "C" {
 #endif
 
 /* Whether a matrix file is fit. Gives 0, 1, 8, 9, 10 or 12. */
+PAIR_NODISCARD PAIR_NONNULL
 uint32_t pair_matrix_check(const uint8_t *file, size_t file_n);
 
 /* Writes the file (PAIR_FILE_BYTES) of 81 rows (PAIR_ROWS_BYTES). Gives 0, 1, 10 or 12. */
+PAIR_NODISCARD PAIR_NONNULL
 uint32_t pair_matrix_write(const uint8_t *rows, size_t rows_n, uint8_t *out, size_t out_n);
 
 /* Writes the 81 rows (PAIR_ROWS_BYTES) of a file (PAIR_FILE_BYTES). Gives 0, 1, 8, 9, 10 or 12. */
+PAIR_NODISCARD PAIR_NONNULL
 uint32_t pair_matrix_read(const uint8_t *file, size_t file_n, uint8_t *out, size_t out_n);
 
 /* The function in one place, for whoever has a whole key and a whole label: writes the code
  * (PAIR_CODE_BYTES). Gives 0, 1, 8, 9, 10 or 12. */
+PAIR_NODISCARD PAIR_NONNULL
 uint32_t pair_evaluate(const uint8_t *key, size_t key_n, const uint8_t *label, size_t label_n,
                        const uint8_t *file, size_t file_n, uint8_t *out, size_t out_n);
 
 /* Writes a tape (PAIR_TAPE_BYTES) made of source bytes and sets *used to how many of them it took.
  * The source is uniformly random: PAIR_SOURCE_BYTES of it, or more. Gives 0, 1 or 13. */
+PAIR_NODISCARD PAIR_NONNULL
 uint32_t pair_sample(const uint8_t *source, size_t source_n, uint8_t *out, size_t out_n, uint64_t *used);
 
 /* Writes unit 0's deal frame, then unit 1's (PAIR_DEALT_BYTES), of a session and a tape. Gives 0, 1 or 10. */
+PAIR_NODISCARD PAIR_NONNULL
 uint32_t pair_deal(uint32_t session, const uint8_t *tape, size_t tape_n, uint8_t *out, size_t out_n);
 
 /* The same of the tape that pair_sample makes of these source bytes. Gives 0, 1 or 13. */
+PAIR_NODISCARD PAIR_NONNULL
 uint32_t pair_deal_source(uint32_t session, const uint8_t *source, size_t source_n, uint8_t *out, size_t out_n,
                           uint64_t *used);
 
@@ -104,9 +167,10 @@ uint32_t pair_deal_source(uint32_t session, const uint8_t *source, size_t source
  * so that an old state does not go on under a host that overlooks the number; a host that wants to keep
  * one lends another slice. Only a state slice of another length (1) is left as it was.
  *
- * A state is stage 1 byte (0 idle, 4 done, else the kind waited for), side 1, session 4 lowest first, key
- * half 32, label half 32, the deal 160, the unit's own mask 32. Nobody else writes it between two calls,
- * and no copy is stepped again: two answers from one state tell more than the protocol does. */
+ * A state is stage 1 byte (enum pair_stage), side 1, session 4 lowest first, key half 32, label half 32, the
+ * deal 160, the unit's own mask 32. Nobody else writes it between two calls, and no copy is stepped again:
+ * two answers from one state tell more than the protocol does. */
+PAIR_NODISCARD PAIR_NONNULL
 uint32_t pair_begin(uint32_t side, uint32_t session, const uint8_t *key_half, size_t key_half_n,
                     const uint8_t *label_half, size_t label_half_n, uint8_t *state, size_t state_n);
 
@@ -121,15 +185,18 @@ uint32_t pair_begin(uint32_t side, uint32_t session, const uint8_t *key_half, si
  * After three accepted frames the unit is done, and its state has no secret left. A refused frame leaves
  * the state as it was, so a host may drop it and go on. The matrix file (PAIR_FILE_BYTES) is read only if
  * the frame's first byte is 3; for other frames it may be empty. Gives 0, 1 or 3 to 12 but not 11. */
+PAIR_NODISCARD PAIR_NONNULL
 uint32_t pair_step(uint8_t *state, size_t state_n, const uint8_t *frame, size_t frame_n, const uint8_t *file,
                    size_t file_n, uint8_t *out, size_t out_n, uint64_t *written);
 
 /* Adds side 0's and side 1's share frame to the code (PAIR_CODE_BYTES). Gives 0, 1, 3 to 6, 10 or 11. */
+PAIR_NODISCARD PAIR_NONNULL
 uint32_t pair_join(const uint8_t *share0, size_t share0_n, const uint8_t *share1, size_t share1_n, uint8_t *out,
                    size_t out_n);
 
 /* A whole run in one place, session 1, for trials: of two key halves, two label halves, tape and matrix
  * file (PAIR_INPUT_BYTES) it writes the code (PAIR_CODE_BYTES). Gives 0, 1, 8, 9, 10 or 12. */
+PAIR_NODISCARD PAIR_NONNULL
 uint32_t pair_run(const uint8_t *input, size_t input_n, uint8_t *out, size_t out_n);
 
 #ifdef __cplusplus

@@ -1,5 +1,5 @@
 //! The examples in C, run as programs: the counter reader on fit files and on
-//! every refusal, and both units in two processes.
+//! every refusal, both units in two processes, and the self-test.
 
 use service_pair_tests::random::{report, seed, Random};
 use service_pair_tests::reference::evaluator::{CODE_BYTES, CODE_PLANE};
@@ -183,4 +183,14 @@ fn two_units_agree_with_the_evaluator() {
         assert_eq!(compare(&folder, &files).0, DONE);
     }
     report("examples: runs of two units in two processes", count);
+}
+
+#[test]
+fn the_self_test_passes_and_says_so_in_one_line() {
+    let (status, output, message) = run(&mut Command::new(example("self_test")));
+    assert_eq!((status, &message[..]), (Some(0), ""));
+    let version = output.strip_prefix("self-test passed, interface ").expect("it passed");
+    let parts: Vec<&str> = version.strip_suffix('\n').expect("a line").split('.').collect();
+    assert_eq!(parts.len(), 3, "{version}");
+    assert!(parts.iter().all(|part| part.parse::<u32>().is_ok()), "{version}");
 }

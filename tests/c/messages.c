@@ -1,0 +1,169 @@
+/* Messages to a unit of examples/two_units.c that are cut or too long, under the sanitizers: the unit must
+ * refuse each by its number, and every process must have wiped its secrets when it ends. */
+#define main two_units_main
+#include "../../examples/two_units.c"
+#undef main
+
+#include <fcntl.h>
+#include <stdbool.h>
+
+enum { MESSAGES = 6, LONGEST = PAIR_FILE_BYTES + 4096, NOT_WIPED = 7 };
+
+static const struct {
+    const char *name;
+    size_t n;
+    bool frame;
+} messages[MESSAGES] = {
+    {"key half", PAIR_KEY_BYTES, false},         {"label half", PAIR_LABEL_BYTES, false},
+    {"matrix file", PAIR_FILE_BYTES, false},     {"deal frame", PAIR_DEAL_FRAME_BYTES, true},
+    {"open frame", PAIR_OPEN_FRAME_BYTES, true}, {"mask frame", PAIR_MASK_FRAME_BYTES, true},
+};
+
+/* What unit 0 is sent, in this order, each with other bytes after it. */
+static uint8_t contents[MESSAGES][LONGEST];
+static unsigned tried;
+
+static void wrong(const char *name, size_t n, const char *what)
+{
+    fprintf(stderr, "messages: %s of %zu bytes: %s\n", name, n, what);
+    exit(1);
+}
+
+/* A run in this process, for the frames that unit 1 sends. */
+static void make_messages(void)
+{
+    uint8_t tape[PAIR_TAPE_BYTES], dealt[PAIR_DEALT_BYTES], key1[PAIR_KEY_BYTES], label1[PAIR_LABEL_BYTES];
+    uint8_t state[PAIR_STATE_BYTES], open0[PAIR_STEP_OUTPUT_BYTES], out[PAIR_STEP_OUTPUT_BYTES];
+    uint64_t count;
+    draw(contents[0], sizeof contents);
+    draw_matrix(contents[2]);
+    draw(secret.source, sizeof secret.source);
+    expect_ok("sampler", pair_sample(secret.source, sizeof secret.source, tape, sizeof tape, &count));
+    expect_ok("dealer", pair_deal(SESSION, tape, sizeof tape, dealt, sizeof dealt));
+    memcpy(contents[3], dealt, PAIR_DEAL_FRAME_BYTES);
+    /* unit 0's open frame */
+    expect_ok("unit 0", pair_begin(0, SESSION, contents[0], PAIR_KEY_BYTES, contents[1], PAIR_LABEL_BYTES, state,
+                                   sizeof state));
+    expect_ok("unit 0", pair_step(state, sizeof state, dealt, PAIR_DEAL_FRAME_BYTES, contents[2], 0, open0,
+                                  sizeof open0, &count));
+    /* unit 1's open and mask frame */
+    draw(key1, sizeof key1);
+    draw(label1, sizeof label1);
+    expect_ok("unit 1", pair_begin(1, SESSION, key1, sizeof key1, label1, sizeof label1, state, sizeof state));
+    expect_ok("unit 1", pair_step(state, sizeof state, dealt + PAIR_DEAL_FRAME_BYTES, PAIR_DEAL_FRAME_BYTES,
+                                  contents[2], 0, out, sizeof out, &count));
+    memcpy(contents[4], out, (size_t)count);
+    expect_ok("unit 1", pair_step(state, sizeof state, open0, PAIR_OPEN_FRAME_BYTES, contents[2], 0, out, sizeof out,
+                                  &count));
+    memcpy(contents[5], out, (size_t)count);
+    wipe_secret();
+}
+
+/* Registered before the example registers its wipe, so it runs after it. */
+static void expect_wiped(void)
+{
+    for (size_t i = 0; i < sizeof secret; i++)
+        if (((const uint8_t *)&secret)[i] != 0)
+            _exit(NOT_WIPED);
+}
+
+/* Starts unit 0 with its error output in a pipe; sends all messages, number `other` with n bytes; gives the
+ * unit's exit status, and what it said. */
+static int run_unit(int other, size_t n, char *said, size_t said_n)
+{
+    int home[2], between[2], errors[2], status;
+    connect_two(home);
+    connect_two(between);
+    if (pipe(errors) != 0)
+        fail("pipe");
+    pid_t process = fork();
+    if (process < 0)
+        fail("fork");
+    if (process == 0) {
+        close(home[0]);
+        close(between[0]);
+        if (dup2(errors[1], STDERR_FILENO) < 0 || atexit(expect_wiped) != 0 || atexit(wipe_secret) != 0)
+            fail("unit");
+        unit(0, home[1], between[1]);
+    }
+    close(home[1]);
+    close(between[1]);
+    close(errors[1]);
+    for (int i = 0; i < MESSAGES; i++) {
+        /* A unit that has refused one is gone, and its end closed. */
+        ssize_t sent = send(i < 4 ? home[0] : between[0], contents[i], i == other ? n : messages[i].n, MSG_NOSIGNAL);
+        if (sent < 0 && errno != EPIPE && errno != ECONNRESET)
+            fail("send");
+    }
+    size_t got = 0;
+    for (ssize_t more = 1; more > 0 && got + 1 < said_n; got += (size_t)more)
+        if ((more = read(errors[0], said + got, said_n - 1 - got)) < 0)
+            fail("read");
+    said[got] = '\0';
+    if (waitpid(process, &status, 0) < 0)
+        fail("waitpid");
+    close(home[0]);
+    close(between[0]);
+    close(errors[0]);
+    return WIFEXITED(status) ? WEXITSTATUS(status) : -1;
+}
+
+static void try_length(int other, size_t n)
+{
+    char said[512], right[64];
+    int status = run_unit(other, n, said, sizeof said);
+    const char *name = messages[other].name;
+    tried++;
+    if (status == NOT_WIPED)
+        wrong(name, n, "secrets were left");
+    if (n == messages[other].n) {
+        if (status != 0 || said[0] != '\0')
+            wrong(name, n, "a fit message was refused");
+        return;
+    }
+    unsigned number = !messages[other].frame ? PAIR_WRONG_LENGTH : n < PAIR_HEADER_BYTES ? PAIR_NO_KIND
+                                                                                         : PAIR_FRAME_LENGTH;
+    snprintf(right, sizeof right, "refused with %u: ", number);
+    if (status != 1 || strstr(said, right) == NULL)
+        wrong(name, n, status == 0 ? "it was accepted" : said);
+}
+
+/* The whole example: two units, dealer, owners and counter. */
+static void try_example(void)
+{
+    char name[] = "two_units", *arguments[] = {name, NULL};
+    int status;
+    fflush(stdout);
+    pid_t process = fork();
+    if (process < 0)
+        fail("fork");
+    if (process == 0) {
+        int nowhere = open("/dev/null", O_WRONLY);
+        if (nowhere < 0 || dup2(nowhere, STDOUT_FILENO) < 0 || atexit(expect_wiped) != 0)
+            fail("example");
+        exit(two_units_main(1, arguments));
+    }
+    if (waitpid(process, &status, 0) < 0)
+        fail("waitpid");
+    int ended = WIFEXITED(status) ? WEXITSTATUS(status) : -1;
+    if (ended != 0) {
+        fprintf(stderr, "messages: the example %s\n", ended == NOT_WIPED ? "left secrets" : "failed");
+        exit(1);
+    }
+}
+
+int main(void)
+{
+    /* A unit that waits for a message that nobody sends is a failure too. */
+    alarm(120);
+    make_messages();
+    for (int i = 0; i < MESSAGES; i++) {
+        size_t fit = messages[i].n;
+        const size_t lengths[] = {0, 1, fit - 1, fit, fit + 1, fit + 2, fit + 500, LONGEST};
+        for (size_t k = 0; k < sizeof lengths / sizeof lengths[0]; k++)
+            try_length(i, lengths[k]);
+    }
+    try_example();
+    printf("messages: %u runs of a unit, fit, cut and too long\n", tried);
+    return 0;
+}
