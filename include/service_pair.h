@@ -2,9 +2,10 @@
  *
  * Every function here is proved to meet its contract, for all inputs (crates/protocol/src/units.rt for
  * pair_begin and pair_step, interface.rt for all others).
- * Link target/staticlib/libprotocol.a, which `rt staticlib protocol` makes: for x86-64 Linux alone. It needs
- * `memcpy` of the host, and may need `memset`, and no other library. service_pair_text.h has a text for each
- * number, a code's digits, and how to wipe what was secret.
+ * Link target/staticlib/libprotocol.a, which `rt staticlib protocol` makes, or what `./install PREFIX` has put
+ * where pkg-config finds it (service_pair): for x86-64 Linux alone. It needs `memcpy` of the host, and may need
+ * `memset`, and no other library. service_pair_text.h has a text for each number, a code's digits, and how to
+ * wipe what was secret.
  *
  * SLICES. A slice is a pointer and a length. The pointer is never NULL, also where the length is 0, and
  * the memory is the caller's: a function reads or writes it during the call only, and keeps no pointer.

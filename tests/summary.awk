@@ -5,8 +5,8 @@
 /^logic=proved functions=[0-9]+ / { functions += substr($2, length("functions=") + 1) }
 /^test result: ok\. [0-9]+ passed; / { tests += $4; ignored += $8 }
 /^[a-z_]+: [0-9]+ calls/ { calls += $2 }
-/^passed over: / { pass_over(substr($0, length("passed over: ") + 1)) }
-# The harness writes a dot for each test, so that a report need not stand at the start of its line.
+# The harness writes a dot for each test, so that what a test says need not stand at the start of its line.
+/^\.*passed over: / { pass_over(substr($0, index($0, ": ") + 2)) }
 / [0-9]+ inputs tried, / {
     match($0, / [0-9]+ inputs tried, /)
     inputs += substr($0, RSTART + 1, RLENGTH)

@@ -230,10 +230,12 @@ fn versions_and_links_agree() {
 fn refusals_are_one_line() {
     let folder = folder("install_refusals");
     fs::write(folder.join("file"), "").expect("the file is written");
+    let help = output(&mut command(&folder, &["--help"]));
+    assert!(help.contains("./install PREFIX ") && help.contains("DESTDIR"), "{help}");
     let cases: [(&[&str], &str); 6] = [
         (&[], "usage: ./install PREFIX"),
         (&[""], "usage: ./install PREFIX"),
-        (&["--help"], "usage: ./install PREFIX"),
+        (&["--unknown"], "usage: ./install PREFIX"),
         (&["one", "two"], "usage: ./install PREFIX"),
         (&["file"], "/file/include cannot be written"),
         (&["/proc/nothing"], "/proc/nothing/include cannot be written"),
