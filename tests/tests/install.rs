@@ -139,8 +139,8 @@ fn run(host: &Path, name: &str, libraries: &Path) {
 fn a_host_is_built_from_another_folder() {
     if Command::new("pkg-config").arg("--version").output().is_err() {
         println!(
-            "passed over: pkg-config is missing. It comes with: apt install pkg-config, or dnf \
-             install pkgconf-pkg-config"
+            "passed over: a host built with pkg-config, since it is missing: apt install pkg-config, \
+             or dnf install pkgconf-pkg-config"
         );
         return;
     }
