@@ -1,4 +1,4 @@
--- The dealer takes exactly the accepted tapes, the check exactly the fit files, and the sampler makes accepted tapes.
+-- The dealer takes exactly the accepted tapes, and the sampler makes accepted tapes.
 use Prim.Native.Nat.{ℕ, zero, suc, _+_, _-_, _*_, _≤_, _<_}
 use mathlib.Core.Path.{_≡_, refl, sym, ap, _∙_, subst}
 use mathlib.Core.Logic.{_↔_}
@@ -14,28 +14,12 @@ use Rattle.linear_model.specs.Trits.{fitTrits, packTrits}
 use Rattle.linear_model.proofs.Strings.{bytes-slice, bytes-append}
 use Rattle.linear_model.proofs.Vectors.{length-packTrits, bytes-packTrits, fit-pack}
 use Rattle.numbers.specs.Number.{first}
-use Rattle.pair_model.specs.Scheme.{Scheme, field, fileNumber}
+use Rattle.pair_model.specs.Scheme.{Scheme, field}
 use Rattle.pair_model.specs.Tape.{tapeBytes, r0, Accepted}
 use Rattle.source_model.specs.Pair.{pair}
 use Rattle.pair_model.specs.Sampler.{Drawn, found, draw, copiedBytes, wantedTrits, drawn, sampled, sampleConditions, sampleNumber}
-use Rattle.pair_model.specs.Dealer.{dealtBytes, dealConditions, dealNumber, dealSourceConditions, dealSourceNumber}
-use Rattle.numbers.proofs.Numbers.{is-true, denied, equal, at-least, is-equal, is-at-least, first-none, first-pass, Positive, NoneHolds, none-holds, first-zero}
-
--- ---- files
-
-module _ (S : Scheme) (file : List ℕ) where
-  -- a file is fit exactly if it has the stated length and its faults give 0
-  pub fit-file : (fileNumber S file ≡ 0) ↔ ((length file ≡ S .fileBytes) × (first (S .faults file) ≡ 0))
-  unfolding fileNumber
-  fit-file = (
-    (λ e. let h = first-none 1 (not (eqb (length file) (S .fileBytes))) (S .faults file) (lit< tt) e in (is-equal (length file) (S .fileBytes) (h .0), h .1)),
-    (λ h. first-pass 1 (not (eqb (length file) (S .fileBytes))) (S .faults file) (ap not (equal (length file) (S .fileBytes) (h .0))) ∙ h .1),
-  )
-
-  -- where every fault has a number above 0, exactly if none holds
-  pub fit-file-none : Positive (S .faults file) → (fileNumber S file ≡ 0) ↔ ((length file ≡ S .fileBytes) × NoneHolds (S .faults file))
-  fit-file-none p =
-      ((λ e. let h = fit-file .0 e in (h .0, none-holds (S .faults file) p (h .1))), (λ h. fit-file .1 (h .0, first-zero (S .faults file) (h .1))))
+use Rattle.pair_model.specs.Dealer.{dealtBytes, dealConditions, dealNumber}
+use Rattle.numbers.proofs.Numbers.{is-true, denied, equal, at-least, is-equal, is-at-least, none-holds, first-zero}
 
 -- ---- tapes
 
@@ -147,16 +131,9 @@ module _ (S : Scheme) (source : List ℕ) (bytes : (i : ℕ) → getD source i 0
         whole : copiedBytes S + (S .innerBytes + S .innerBytes) ≡ tapeBytes S
         whole = omega arith
 
-  -- where the sampler or the dealer over source bytes returns 0, the tape is accepted
+  -- where the sampler returns 0, the tape is accepted
   pub sampled-accepted : (outputLength : ℕ) → sampleNumber S source outputLength ≡ 0 → Accepted S (sampled S source)
   unfolding sampleConditions
   sampled-accepted outputLength e =
       let h = none-holds (sampleConditions S source outputLength) (lit< tt, (lit< tt, (lit< tt, tt))) e in
-      accepted-sampled (is-at-least (length source) (copiedBytes S) (h .1 .0))
-
-  -- the same of the dealer
-  pub dealt-source-accepted : (outputLength : ℕ) → dealSourceNumber S source outputLength ≡ 0 → Accepted S (sampled S source)
-  unfolding dealSourceConditions
-  dealt-source-accepted outputLength e =
-      let h = none-holds (dealSourceConditions S source outputLength) (lit< tt, (lit< tt, (lit< tt, tt))) e in
       accepted-sampled (is-at-least (length source) (copiedBytes S) (h .1 .0))
