@@ -90,7 +90,8 @@ module _ (S : Scheme) where
   abbrev pub innerMaskDealt : Protocol
   innerMaskDealt = dealtBy withInnerMask
 
-  -- one that uses K̃1 unevenly: its bit 0 is kept only where bit 0 of K̃0 is set, which is cleared; each K̃1 occurs, with bit 0 in one tape of four
+  -- one that uses K̃1 unevenly: its bit 0 is kept only where bit 0 of K̃0 is set, which is cleared. Each K̃1 occurs, with bit 0 in one tape of
+  -- four, so that unit 0 learns no more than odds; unit 1 is told bit 0 of the other's key half
   unfoldable pub withUnevenMask : List ℕ → List ℕ
   withUnevenMask tape =
       concat (withoutBit0 (K̃ S tape side0) ∷ cond (eqb (bit (K̃ S tape side0) 0) 1) (K̃ S tape side1) (withoutBit0 (K̃ S tape side1))
