@@ -7,10 +7,13 @@
  *                        here each call may make no more reports than what is listed can cause
  *     secrets jump       a jump that depends on a secret, with secrets.supp: memcheck must refuse it
  *     secrets address    an address that does: likewise
+ *     secrets mask       a product of 64 bytes that jumps on each bit of a key: likewise
  *
  * Not marked: lengths, sides, sessions, stages and the other bytes of headers, the matrix file, and of a
  * sampler's source the bytes after 191. Which pairs of those are skipped decides where the others go and
  * how many bytes are used, and says nothing of the others' values; memcheck can't tell the two apart. */
+#include "inputs.h"
+#include "secrets.h"
 #include "service_pair.h"
 
 #include <stdbool.h>
@@ -19,13 +22,7 @@
 #include <string.h>
 #include <valgrind/memcheck.h>
 
-enum { SESSION = 0x01020304, COPIED = 192, ODD_STRING = 33, ODD_VECTOR = 2 * ODD_STRING, ODD_ROWS = 9 };
-
-/* Of the library of linear algebra, for strings and vectors of any length. */
-void circulant_product(const uint8_t *key, size_t key_n, const uint8_t *label, size_t label_n, uint8_t *out,
-                       size_t out_n);
-void matrix_product(const uint8_t *rows, size_t rows_n, const uint8_t *v, size_t v_n, size_t t, uint8_t *out,
-                    size_t out_n);
+enum { SESSION = 0x01020304, COPIED = 192, PLANE = 32 };
 
 static uint8_t rows[PAIR_ROWS_BYTES], file[PAIR_FILE_BYTES], source[PAIR_SOURCE_BYTES], tape[PAIR_TAPE_BYTES];
 static uint8_t dealt[PAIR_DEALT_BYTES], keys[2][PAIR_KEY_BYTES], labels[2][PAIR_LABEL_BYTES];
@@ -35,31 +32,29 @@ static uint8_t sent[2][PAIR_STEP_OUTPUT_BYTES];
 static bool count_reports;
 static unsigned calls;
 
-static void fail(const char *name, const char *what, unsigned long n)
+void fail(const char *name, const char *what, unsigned long n)
 {
     fprintf(stderr, "secrets: %s: %s (%lu)\n", name, what, n);
     exit(1);
 }
 
-static void hide(void *bytes, size_t n)
+void hide(void *bytes, size_t n)
 {
     (void)VALGRIND_MAKE_MEM_UNDEFINED(bytes, n);
 }
 
-static void show(void *bytes, size_t n)
+void show(void *bytes, size_t n)
 {
     (void)VALGRIND_MAKE_MEM_DEFINED(bytes, n);
 }
 
-/* What is public must not depend on a secret. */
-static void expect_public(const char *name, const void *bytes, size_t n)
+void expect_public(const char *name, const void *bytes, size_t n)
 {
     if (VALGRIND_CHECK_MEM_IS_DEFINED(bytes, n) != 0)
         fail(name, "what should be public depends on a secret", n);
 }
 
-/* ... and the test must mark what it means to mark. */
-static void expect_secret(const char *name, const uint8_t *bytes, size_t n)
+void expect_secret(const char *name, const uint8_t *bytes, size_t n)
 {
     uint8_t bits[512];
     if (n > sizeof bits || VALGRIND_GET_VBITS(bytes, bits, n) != 1)
@@ -69,9 +64,7 @@ static void expect_secret(const char *name, const uint8_t *bytes, size_t n)
             fail(name, "a byte is no longer secret", i);
 }
 
-/* After a call: its number, and, without secrets.supp, that it made no more than `most` reports, but one if
- * any is listed for it: else the list is longer than it need be. */
-static void expect(const char *name, uint32_t number, uint32_t right, unsigned most)
+void expect(const char *name, uint32_t number, uint32_t right, unsigned most)
 {
     static unsigned before;
     unsigned now = VALGRIND_COUNT_ERRORS, reports = now - before;
@@ -88,33 +81,14 @@ static void expect(const char *name, uint32_t number, uint32_t right, unsigned m
 
 /* ---- inputs */
 
-/* Numbers that look random, the same in every run (xorshift). */
-static void fill(uint8_t *bytes, size_t n)
-{
-    static uint64_t x = 0x9e3779b97f4a7c15u;
-    for (size_t i = 0; i < n; i++) {
-        x ^= x << 13;
-        x ^= x >> 7;
-        x ^= x << 17;
-        bytes[i] = (uint8_t)(x >> 32);
-    }
-}
-
-/* No trit has both bits set: the high plane only where the low one has no bit. */
-static void make_fit(uint8_t *vectors, size_t n)
-{
-    for (size_t i = 0; i < n; i++)
-        vectors[i] &= i % 64 < 32 ? 0xff : (uint8_t)~vectors[i - 32];
-}
-
 static void make_inputs(void)
 {
     fill(rows, sizeof rows);
-    make_fit(rows, sizeof rows);
+    make_fit(rows, sizeof rows, PLANE);
     expect("pair_matrix_write", pair_matrix_write(rows, sizeof rows, file, sizeof file), PAIR_DONE, 0);
     fill(source, sizeof source);
     fill(tape, sizeof tape);
-    make_fit(tape + COPIED, sizeof tape - COPIED);
+    make_fit(tape + COPIED, sizeof tape - COPIED, PLANE);
     fill(keys[0], sizeof keys);
     fill(labels[0], sizeof labels);
     memcpy(input, keys, sizeof keys);
@@ -248,54 +222,45 @@ static void try_whole_calls(void)
     expect_secret("pair_run", code, 10);
 }
 
-/* Sizes that no call has: these take the loops for any size, and the bytes after a plane's last whole word
- * the table of digit products. */
-static void try_odd_sizes(void)
-{
-    uint8_t strings[2][ODD_STRING], product[ODD_STRING], matrix[ODD_ROWS][ODD_VECTOR], v[ODD_VECTOR], digits[4];
-    fill(strings[0], sizeof strings);
-    fill(matrix[0], sizeof matrix);
-    fill(v, sizeof v);
-    hide(strings, sizeof strings);
-    hide(v, sizeof v);
-    circulant_product(strings[0], ODD_STRING, strings[1], ODD_STRING, product, sizeof product);
-    expect("circulant_product", PAIR_DONE, PAIR_DONE, 0);
-    expect_secret("circulant_product", product, sizeof product);
-    matrix_product(matrix[0], sizeof matrix, v, sizeof v, ODD_ROWS, digits, sizeof digits);
-    /* One look into the table for each digit of these bytes, in each row. */
-    expect("matrix_product", PAIR_DONE, PAIR_DONE, ODD_ROWS * 8 * (ODD_STRING % 8));
-    expect_secret("matrix_product", digits, 1);
-}
-
 /* ---- what memcheck must refuse */
 
-static void leak(const char *how)
+static void leak_by_jump(void)
+{
+    uint8_t secret = 7;
+    hide(&secret, sizeof secret);
+    if (secret == 7)
+        calls++;
+}
+
+static void leak_by_address(void)
 {
     static const volatile uint8_t table[256] = {1};
     uint8_t secret = 7;
     hide(&secret, sizeof secret);
-    if (strcmp(how, "address") == 0)
-        (void)table[secret];
-    else if (secret == 7)
-        calls++;
+    (void)table[secret];
 }
 
 int main(int argc, char **argv)
 {
+    static const struct {
+        const char *name;
+        void (*leak)(void);
+    } leaks[] = {{"jump", leak_by_jump}, {"address", leak_by_address}, {"mask", leak_by_mask}};
     const char *how = argc > 1 ? argv[1] : "";
     if (!RUNNING_ON_VALGRIND)
         fail("main", "this is a test for valgrind, and proves nothing without it", 0);
-    if (strcmp(how, "jump") == 0 || strcmp(how, "address") == 0) {
-        leak(how);
-        return 0;
-    }
+    for (size_t i = 0; i < sizeof leaks / sizeof leaks[0]; i++)
+        if (strcmp(how, leaks[i].name) == 0) {
+            leaks[i].leak();
+            return 0;
+        }
     count_reports = strcmp(how, "reports") == 0;
     make_inputs();
     try_dealer();
     try_beginnings();
     try_steps();
     try_whole_calls();
-    try_odd_sizes();
+    try_sizes();
     printf("secrets: %u calls%s\n", calls, count_reports ? ", reports counted" : "");
     return 0;
 }

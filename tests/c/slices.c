@@ -1,100 +1,10 @@
 /* Every function of the interface on fit, short, long and damaged slices, under AddressSanitizer and
- * UndefinedBehaviorSanitizer. They don't see into the library, which is compiled without them, so each
- * slice stands between guards: one end at a page that can't be touched, which stops the program at the
- * first byte past it, the other end at guard bytes; and inputs are in pages that can't be written.
- * Every call is made at both ends. What the written bytes should be is for the Rust tests. */
-#define _DEFAULT_SOURCE
+ * UndefinedBehaviorSanitizer, between guards and at both ends of their pages. What the written bytes should
+ * be is for the Rust tests. */
+#include "lent.h"
 #include "service_pair.h"
 
-#include <stdbool.h>
-#include <stdio.h>
-#include <stdlib.h>
-#include <string.h>
-#include <sys/mman.h>
-#include <unistd.h>
-
-enum { SLICES = 4, SESSION = 0x01020304 };
-
-static unsigned long calls;
-
-static void expect(bool holds, const char *name, const char *what)
-{
-    if (holds)
-        return;
-    fprintf(stderr, "%s, call %lu: %s\n", name, calls, what);
-    exit(1);
-}
-
-/* Numbers that look random, the same in every run (xorshift). */
-static uint64_t draw(void)
-{
-    static uint64_t x = 0x9e3779b97f4a7c15u;
-    x ^= x << 13;
-    x ^= x >> 7;
-    x ^= x << 17;
-    return x;
-}
-
-static void fill(uint8_t *bytes, size_t n)
-{
-    for (size_t i = 0; i < n; i++)
-        bytes[i] = (uint8_t)(draw() >> 32);
-}
-
-/* ---- slices between guards */
-
-struct lent {
-    uint8_t *pages;   /* the pages between the two that can't be touched */
-    uint8_t *before;  /* what they held before the call */
-    size_t pages_n;
-    uint8_t *p;
-    size_t n;
-};
-
-static size_t page(void)
-{
-    return (size_t)sysconf(_SC_PAGESIZE);
-}
-
-/* Lends n bytes: these, as far as there are so many, and then others. */
-static struct lent lend(const uint8_t *content, size_t content_n, size_t n, bool at_end)
-{
-    struct lent s = {.n = n, .pages_n = (n / page() + 1) * page()};
-    uint8_t *map = mmap(NULL, s.pages_n + 2 * page(), PROT_NONE, MAP_PRIVATE | MAP_ANONYMOUS, -1, 0);
-    s.pages = map + page();
-    s.before = malloc(s.pages_n);
-    if (map == MAP_FAILED || s.before == NULL || mprotect(s.pages, s.pages_n, PROT_READ | PROT_WRITE) != 0) {
-        perror("memory for a slice");
-        exit(2);
-    }
-    memset(s.pages, (int)(draw() >> 56), s.pages_n);
-    s.p = at_end ? s.pages + s.pages_n - n : s.pages;
-    if (content != NULL)
-        memcpy(s.p, content, n < content_n ? n : content_n);
-    memcpy(s.before, s.pages, s.pages_n);
-    return s;
-}
-
-static void forbid_writing(const struct lent *s)
-{
-    if (mprotect(s->pages, s->pages_n, PROT_READ) != 0) {
-        perror("mprotect");
-        exit(2);
-    }
-}
-
-/* Whether all is as it was, but for the first `written` bytes of the slice. */
-static bool kept(const struct lent *s, size_t written)
-{
-    size_t from = (size_t)(s->p - s->pages), to = from + written;
-    return memcmp(s->pages, s->before, from) == 0 && memcmp(s->pages + to, s->before + to, s->pages_n - to) == 0;
-}
-
-static void give_back(struct lent *s)
-{
-    munmap(s->pages - page(), s->pages_n + 2 * page());
-    free(s->before);
-}
+enum { SLICES = 4, SESSION = 0x01020304, PLANE = 32 };
 
 /* ---- calls */
 
@@ -293,6 +203,22 @@ static void try_lengths(const struct call *call, size_t *lengths, int i)
     lengths[i] = fit;
 }
 
+/* Every slice empty, a byte short, fit or a byte long, in all ways: the lowest number. */
+static void try_edges(const struct call *call, const size_t *fit)
+{
+    int ways = 1;
+    for (int i = 0; i < call->n; i++)
+        ways *= 4;
+    for (int way = 0; way < ways; way++) {
+        size_t lengths[SLICES];
+        for (int i = 0; i < call->n; i++) {
+            const size_t edges[4] = {0, fit[i] - 1, fit[i], fit[i] + 1};
+            lengths[i] = edges[way >> 2 * i & 3];
+        }
+        try_both(call, lengths, -1);
+    }
+}
+
 static void try_call(const struct call *call)
 {
     size_t fit[SLICES], lengths[SLICES];
@@ -304,6 +230,7 @@ static void try_call(const struct call *call)
         for (int trial = 0; call->slices[i].content != NULL && trial < 100; trial++)
             try_both(call, fit, i);
     }
+    try_edges(call, fit);
     /* Several other lengths at once: the lowest number. */
     for (int trial = 0; trial < 300; trial++) {
         for (int i = 0; i < call->n; i++)
@@ -330,9 +257,7 @@ static void made(const char *what, uint32_t number)
 static void make_matrix(void)
 {
     fill(rows, sizeof rows);
-    /* No trit has both bits set: the high plane only where the low one has no bit. */
-    for (size_t i = 0; i < sizeof rows; i++)
-        rows[i] &= i % 64 < 32 ? 0xff : (uint8_t)~rows[i - 32];
+    make_fit(rows, sizeof rows, PLANE);
     made("pair_matrix_write", pair_matrix_write(rows, sizeof rows, file, sizeof file));
 }
 

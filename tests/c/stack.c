@@ -7,6 +7,7 @@
  *
  * Compiled without sanitizers, which move buffers elsewhere, and optimized as little and as far as can be. */
 #define _DEFAULT_SOURCE
+#include "inputs.h"
 #include "service_pair.h"
 #include "service_pair_text.h"
 
@@ -16,7 +17,7 @@
 #include <string.h>
 #include <ucontext.h>
 
-enum { SESSION = 0x01020304, STACK = 65536, PIECE = 8, KIB = 1024 };
+enum { SESSION = 0x01020304, PLANE = 32, STACK = 65536, PIECE = 8, KIB = 1024 };
 
 static void fail(const char *name, const char *what)
 {
@@ -28,18 +29,6 @@ static void made(const char *what, uint32_t number)
 {
     if (number != PAIR_OK)
         fail(what, pair_number_text(number));
-}
-
-/* Numbers that look random, the same in every run (xorshift). */
-static void fill(uint8_t *bytes, size_t n)
-{
-    static uint64_t x = 0x9e3779b97f4a7c15u;
-    for (size_t i = 0; i < n; i++) {
-        x ^= x << 13;
-        x ^= x >> 7;
-        x ^= x << 17;
-        bytes[i] = (uint8_t)(x >> 32);
-    }
 }
 
 /* ---- what the calls are given */
@@ -56,9 +45,7 @@ static uint64_t count;
 static void make_inputs(void)
 {
     fill(rows, sizeof rows);
-    /* No trit has both bits set: the high plane only where the low one has no bit. */
-    for (size_t i = 0; i < sizeof rows; i++)
-        rows[i] &= i % 64 < 32 ? 0xff : (uint8_t)~rows[i - 32];
+    make_fit(rows, sizeof rows, PLANE);
     made("pair_matrix_write", pair_matrix_write(rows, sizeof rows, file, sizeof file));
     fill(source, sizeof source);
     made("pair_sample", pair_sample(source, sizeof source, tape, sizeof tape, &count));

@@ -1,5 +1,6 @@
 /* service_pair_text.h, and what service_pair.h has beside its calls, under AddressSanitizer and
  * UndefinedBehaviorSanitizer. Whether a compiler keeps the wipes is tried by stack.c. */
+#include "inputs.h"
 #include "service_pair_text.h"
 
 #include <stdio.h>
@@ -37,16 +38,6 @@ static void try_numbers(void)
     }
     expect(strcmp(pair_number_text(PAIR_OK), "done") == 0, "the text of 0");
     expect(strcmp(pair_number_text(UINT32_MAX), other) == 0, "the largest number is in no table");
-}
-
-/* Numbers that look random, the same in every run (xorshift). */
-static uint64_t draw(void)
-{
-    static uint64_t x = 0x9e3779b97f4a7c15u;
-    x ^= x << 13;
-    x ^= x >> 7;
-    x ^= x << 17;
-    return x;
 }
 
 static void try_digits(void)
