@@ -15,7 +15,7 @@ pub(super) const R0: usize = 192;
 /// z1 = z0 + K̃ × x̃ + w̃ modulo 2.
 #[inline(always)]
 pub(super) fn second_z(tape: &[u8; TAPE_BYTES]) -> [u64; 4] {
-    let string = |at| words(part(tape, at));
+    let string = |at| words(tape, at);
     let key_mask = bits::xor(string(0), string(32));
     let label_mask = bits::xor(string(64), string(96));
     bits::xor(bits::product(key_mask, label_mask), bits::xor(string(Z0), string(INNER_MASK)))
@@ -24,7 +24,7 @@ pub(super) fn second_z(tape: &[u8; TAPE_BYTES]) -> [u64; 4] {
 /// r1 = w̃ − r0 modulo 3.
 #[inline(always)]
 pub(super) fn second_r(tape: &[u8; TAPE_BYTES]) -> trits::Vector {
-    trits::difference(words(part(tape, INNER_MASK)), trits::Vector::read(part(tape, R0)))
+    trits::difference(words(tape, INNER_MASK), trits::Vector::read(tape, R0))
 }
 
 /// Writes both deal frames of a tape.
@@ -39,7 +39,7 @@ fn write_deal(session: u32, tape: &[u8; TAPE_BYTES], out: &mut [u8; DEALT_BYTES]
     *part_mut::<32>(second, HEADER) = *part(tape, 32);
     *part_mut::<32>(second, HEADER + 32) = *part(tape, 96);
     write_words(second_z(tape), second, HEADER + 64);
-    second_r(tape).write(part_mut(second, HEADER + 96));
+    second_r(tape).write(second, HEADER + 96);
 }
 
 /// Both deal frames of a session and a tape.
@@ -48,7 +48,7 @@ pub fn deal(session: u32, tape: &[u8], out: &mut [u8]) -> u32 {
     let (Ok(tape), Some(out)) = (<&[u8; TAPE_BYTES]>::try_from(tape), out.first_chunk_mut()) else {
         return WRONG_LENGTH;
     };
-    if !trits::Vector::read(part(tape, R0)).fits() {
+    if !trits::Vector::<4>::read(tape, R0).fits() {
         return UNFIT_TRIT;
     }
     write_deal(session, tape, out);

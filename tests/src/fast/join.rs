@@ -1,7 +1,7 @@
 //! The counter's join.
 
+use super::codes;
 use super::frame::{form_number, session, HEADER};
-use super::trits;
 use crate::reference::frame::{SHARE, SHARE_BYTES};
 use crate::reference::numbers::{OTHER_SESSION, OTHER_SIDE, UNFIT_TRIT, UNUSED_BIT, WRONG_LENGTH};
 
@@ -18,7 +18,7 @@ fn lower(a: u32, b: u32) -> u32 {
 /// The code of two share frames, side 0's first.
 #[inline(never)]
 pub fn join(share0: &[u8], share1: &[u8], out: &mut [u8]) -> u32 {
-    let Some(out) = out.first_chunk_mut() else {
+    let Some(out) = out.first_chunk_mut::<22>() else {
         return WRONG_LENGTH;
     };
     let number = lower(form_number(share0, SHARE, SHARE), form_number(share1, SHARE, SHARE));
@@ -37,12 +37,12 @@ pub fn join(share0: &[u8], share1: &[u8], out: &mut [u8]) -> u32 {
         return OTHER_SIDE;
     }
     let (a, b) = (a[HEADER..].try_into().expect("a code"), b[HEADER..].try_into().expect("a code"));
-    if trits::both_bits(a) | trits::both_bits(b) != 0 {
+    if codes::both_bits::<81>(a) | codes::both_bits::<81>(b) != 0 {
         return UNFIT_TRIT;
     }
-    if trits::spare_bits(a) | trits::spare_bits(b) != 0 {
+    if codes::spare_bits::<81>(a) | codes::spare_bits::<81>(b) != 0 {
         return UNUSED_BIT;
     }
-    trits::add_code(a, b, out);
+    codes::add::<81>(a, b, out);
     0
 }

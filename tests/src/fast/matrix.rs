@@ -2,7 +2,7 @@
 //! stand. A file is public, so it may be branched on.
 
 use super::part;
-use super::rows::{bit_row_digit, row_digit, Digits};
+use super::rows::{row_digit, Digits};
 use super::trits::Vector;
 use crate::reference::matrix::{BLOCKS, BLOCK_BYTES, CHECK_AT, ROW_BYTES};
 use crate::reference::numbers::{BLOCK_CHECK, BLOCK_LAYOUT, UNFIT_TRIT, WRONG_LENGTH, ZERO_ROW};
@@ -63,6 +63,39 @@ struct Faults {
     zero_row: bool,
 }
 
+/// What is done with each row while a file is judged; no closure, so that it is
+/// compiled in place.
+trait Visit {
+    fn visit(&mut self, i: usize, row: Vector);
+}
+
+/// Rows that are only judged.
+impl Visit for () {
+    #[inline(always)]
+    fn visit(&mut self, _: usize, _: Vector) {}
+}
+
+/// Rows times a vector.
+struct Products {
+    v: Vector,
+    digits: Digits,
+}
+
+impl Visit for Products {
+    #[inline(always)]
+    fn visit(&mut self, i: usize, row: Vector) {
+        self.digits.set(i, row_digit(row, self.v));
+    }
+}
+
+impl Visit for [Products; 2] {
+    #[inline(always)]
+    fn visit(&mut self, i: usize, row: Vector) {
+        self[0].visit(i, row);
+        self[1].visit(i, row);
+    }
+}
+
 impl Faults {
     /// Judges a block, and hands on each of its rows with its number.
     #[inline(always)]
@@ -71,15 +104,15 @@ impl Faults {
         block: &[u8; BLOCK_BYTES],
         number: usize,
         rows: usize,
-        visit: &mut impl FnMut(usize, Vector),
+        visit: &mut impl Visit,
     ) {
         self.check |= bad_check(block);
         self.layout |= bad_layout(block, number, rows);
         for i in 0..rows {
-            let row = Vector::read(part(block, ROWS_AT + ROW_BYTES * i));
+            let row: Vector = Vector::read(block, ROWS_AT + ROW_BYTES * i);
             self.unfit |= row.both_bits();
-            self.zero_row |= is_zero(row);
-            visit(ROWS_OF_A_BLOCK * number + i, row);
+            self.zero_row |= row.is_zero();
+            visit.visit(ROWS_OF_A_BLOCK * number + i, row);
         }
     }
 
@@ -96,57 +129,38 @@ impl Faults {
     }
 }
 
-/// Whether a row is all zero: mostly its first word tells.
+/// The number of a file, each of whose rows is visited.
 #[inline(always)]
-fn is_zero(row: Vector) -> bool {
-    row.low[0] == 0 && (row.low.iter().chain(&row.high)).fold(0, |any, word| any | word) == 0
-}
-
-/// The number of a file, each of whose rows is handed on.
-#[inline(always)]
-fn pass(file: &[u8; FILE_BYTES], mut visit: impl FnMut(usize, Vector)) -> u32 {
+fn pass(file: &[u8; FILE_BYTES], visit: &mut impl Visit) -> u32 {
     let mut faults = Faults::default();
     for number in 0..BLOCKS - 1 {
         let block = part(file, BLOCK_BYTES * number);
-        faults.judge(block, number, ROWS_OF_A_BLOCK, &mut visit);
+        faults.judge(block, number, ROWS_OF_A_BLOCK, visit);
     }
     let last = part(file, BLOCK_BYTES * (BLOCKS - 1));
-    faults.judge(last, BLOCKS - 1, ROWS_OF_THE_LAST, &mut visit);
+    faults.judge(last, BLOCKS - 1, ROWS_OF_THE_LAST, visit);
     faults.number()
 }
 
 /// The number of a file, and its rows times a vector.
 #[inline(always)]
 pub(super) fn trit_rows(file: &[u8; FILE_BYTES], v: Vector) -> (u32, Digits) {
-    let mut digits = Digits::none();
-    let number = pass(file, |i, row| digits.set(i, row_digit(row, v)));
-    (number, digits)
-}
-
-/// The number of a file, and its rows times a vector of bits.
-#[inline(always)]
-pub(super) fn bit_rows(file: &[u8; FILE_BYTES], w: [u64; 4]) -> (u32, Digits) {
-    let mut digits = Digits::none();
-    let number = pass(file, |i, row| digits.set(i, bit_row_digit(row, w)));
-    (number, digits)
+    let mut rows = Products { v, digits: Digits::none() };
+    (pass(file, &mut rows), rows.digits)
 }
 
 /// The number of a file, and its rows times two vectors.
 #[inline(always)]
-pub(super) fn rows_of_both(file: &[u8; FILE_BYTES], [v, w]: [Vector; 2]) -> (u32, [Digits; 2]) {
-    let mut digits = [Digits::none(), Digits::none()];
-    let number = pass(file, |i, row| {
-        digits[0].set(i, row_digit(row, v));
-        digits[1].set(i, row_digit(row, w));
-    });
-    (number, digits)
+pub(super) fn rows_of_both(file: &[u8; FILE_BYTES], vectors: [Vector; 2]) -> (u32, [Digits; 2]) {
+    let mut rows = vectors.map(|v| Products { v, digits: Digits::none() });
+    (pass(file, &mut rows), rows.map(|rows| rows.digits))
 }
 
 /// The matrix check: the number of a file.
 #[inline(never)]
 pub fn matrix_check(file: &[u8]) -> u32 {
     match file.try_into() {
-        Ok(file) => pass(file, |_, _| {}),
+        Ok(file) => pass(file, &mut ()),
         Err(_) => WRONG_LENGTH,
     }
 }

@@ -3,9 +3,9 @@
 
 use super::dealer::{second_r, second_z, R0};
 use super::matrix::{rows_of_both, FILE_BYTES};
-use super::trits::{add_code, share, Vector};
+use super::trits::{share, Vector};
 use super::unit::own_mask;
-use super::{bits, part, words};
+use super::{bits, codes, part, words};
 use crate::reference::dealer::TAPE_BYTES;
 use crate::reference::numbers::{BLOCK_CHECK, BLOCK_LAYOUT, UNFIT_TRIT, WRONG_LENGTH};
 use crate::reference::program::INPUT_BYTES;
@@ -20,30 +20,31 @@ const FILE: usize = TAPE + TAPE_BYTES;
 #[inline(always)]
 fn inner_shares(input: &[u8; INPUT_BYTES]) -> [Vector; 2] {
     let tape: &[u8; TAPE_BYTES] = part(input, TAPE);
-    let half = |at| words(part(input, at));
-    let masks = |at: usize| [words(part(tape, at)), words(part(tape, at + 32))];
+    let half = |at| words(input, at);
+    let masks = |at: usize| [words(tape, at), words(tape, at + 32)];
     let (key_masks, label_masks) = (masks(0), masks(64));
     let open = |halves: usize, masks: [[u64; 4]; 2]| {
         let first = bits::xor(half(halves), masks[0]);
         bits::xor(first, bits::xor(half(halves + 32), masks[1]))
     };
     let both = [open(KEYS, key_masks), open(LABELS, label_masks)];
-    let z = [words(part(tape, 160)), second_z(tape)];
+    let z = [words(tape, 160), second_z(tape)];
     let mask = |i: usize| own_mask(i as u8, both, [key_masks[i], label_masks[i], z[i]]);
     let w = bits::xor(mask(0), mask(1));
-    [share(0, w, Vector::read(part(tape, R0))), share(1, w, second_r(tape))]
+    [share(0, w, Vector::read(tape, R0)), share(1, w, second_r(tape))]
 }
 
 /// The code of two key halves, two label halves, tape and matrix file.
 #[inline(never)]
 pub fn pair_run(input: &[u8], out: &mut [u8]) -> u32 {
-    let (Ok(input), Some(out)) = (<&[u8; INPUT_BYTES]>::try_from(input), out.first_chunk_mut())
+    let (Ok(input), Some(out)) =
+        (<&[u8; INPUT_BYTES]>::try_from(input), out.first_chunk_mut::<22>())
     else {
         return WRONG_LENGTH;
     };
     let file: &[u8; FILE_BYTES] = part(input, FILE);
     let (number, digits) = rows_of_both(file, inner_shares(input));
-    let tape_fits = Vector::read(part(input, TAPE + R0)).fits();
+    let tape_fits = Vector::<4>::read(input, TAPE + R0).fits();
     if !tape_fits && number != BLOCK_CHECK && number != BLOCK_LAYOUT {
         return UNFIT_TRIT;
     }
@@ -53,6 +54,6 @@ pub fn pair_run(input: &[u8], out: &mut [u8]) -> u32 {
     let mut shares = [[0; 22]; 2];
     digits[0].write(&mut shares[0]);
     digits[1].write(&mut shares[1]);
-    add_code(&shares[0], &shares[1], out);
+    codes::add::<81>(&shares[0], &shares[1], out);
     0
 }

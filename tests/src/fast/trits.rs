@@ -1,163 +1,143 @@
-//! Trit vectors of 64 bytes and codes of 22 bytes, modulo 3: a low and a high
-//! plane of words.
+//! Trit vectors of two planes of W words, and codes, modulo 3.
 
-use super::{part, part_mut, word, words, write_words};
+use super::{words, write_words};
 
-/// The bytes of one plane of a code.
-const CODE_PLANE: usize = 11;
-/// A code's two words of a plane start at these bytes; they share five bytes.
-const CODE_WORDS: [usize; 2] = [0, 3];
-
-/// Trits in place of 0 to 2 in a word of each plane.
+/// Trits in a word each of where a digit is not 0 and of where it is 2.
 #[derive(Clone, Copy)]
 pub(super) struct Trits {
-    pub(super) low: u64,
-    pub(super) high: u64,
+    pub(super) nonzero: u64,
+    pub(super) two: u64,
 }
 
-/// Both bits set count as 0.
-#[inline(always)]
-fn fit(low: u64, high: u64) -> Trits {
-    let both = low & high;
-    Trits { low: low ^ both, high: high ^ both }
+impl Trits {
+    /// Of a word of each plane; both bits set count as 0.
+    #[inline(always)]
+    pub(super) fn of(low: u64, high: u64) -> Trits {
+        let nonzero = low ^ high;
+        Trits { nonzero, two: nonzero & high }
+    }
+
+    /// Bits as trits.
+    #[inline(always)]
+    fn bits(bits: u64) -> Trits {
+        Trits { nonzero: bits, two: 0 }
+    }
+
+    /// The low plane's word; the high plane's is `two`.
+    #[inline(always)]
+    pub(super) fn low(self) -> u64 {
+        self.nonzero ^ self.two
+    }
 }
 
-/// The sum of fit trits.
+/// The sum of trits, in six operations.
 #[inline(always)]
 pub(super) fn sum(a: Trits, b: Trits) -> Trits {
-    let t = (a.low | b.high) ^ (a.high | b.low);
-    Trits { low: (a.high | b.high) ^ t, high: (a.low | b.low) ^ t }
+    let (s, t) = (a.nonzero ^ b.two, a.two ^ b.nonzero);
+    Trits { nonzero: (t ^ b.two) | (s ^ a.two), two: s & t }
 }
 
-/// The product of trits, both bits set counting as 0.
-#[inline(always)]
-pub(super) fn product(a: Trits, b: Trits) -> Trits {
-    let nonzero = (a.low ^ a.high) & (b.low ^ b.high);
-    let high = nonzero & (a.high ^ b.high);
-    Trits { low: nonzero ^ high, high }
-}
-
-/// 256 trits.
+/// 64 W trits, as they are read: both bits of one may be set.
 #[derive(Clone, Copy)]
-pub(super) struct Vector {
-    pub(super) low: [u64; 4],
-    pub(super) high: [u64; 4],
+pub(super) struct Vector<const W: usize = 4> {
+    pub(super) low: [u64; W],
+    pub(super) high: [u64; W],
 }
 
-impl Vector {
+impl<const W: usize> Vector<W> {
     #[inline(always)]
-    pub(super) fn read(bytes: &[u8; 64]) -> Vector {
-        Vector { low: words(part(bytes, 0)), high: words(part(bytes, 32)) }
+    pub(super) fn read(bytes: &[u8], at: usize) -> Vector<W> {
+        let bytes = &bytes[at..at + 16 * W];
+        Vector { low: words(bytes, 0), high: words(bytes, 8 * W) }
     }
 
     #[inline(always)]
-    pub(super) fn write(self, out: &mut [u8; 64]) {
+    pub(super) fn write(self, out: &mut [u8], at: usize) {
+        let out = &mut out[at..at + 16 * W];
         write_words(self.low, out, 0);
-        write_words(self.high, out, 32);
+        write_words(self.high, out, 8 * W);
     }
 
     #[inline(always)]
-    fn of(word: impl Fn(usize) -> Trits) -> Vector {
-        let [a, b, c, d] = [word(0), word(1), word(2), word(3)];
-        Vector { low: [a.low, b.low, c.low, d.low], high: [a.high, b.high, c.high, d.high] }
+    fn zero() -> Vector<W> {
+        Vector { low: [0; W], high: [0; W] }
     }
 
     #[inline(always)]
-    pub(super) fn word(self, j: usize) -> Trits {
-        Trits { low: self.low[j], high: self.high[j] }
+    fn set(&mut self, j: usize, trits: Trits) {
+        (self.low[j], self.high[j]) = (trits.low(), trits.two);
     }
 
     /// The places with both bits set, gathered in one word.
     #[inline(always)]
     pub(super) fn both_bits(self) -> u64 {
-        let both = |j: usize| self.low[j] & self.high[j];
-        both(0) | both(1) | both(2) | both(3)
+        let mut both = 0;
+        for j in 0..W {
+            both |= self.low[j] & self.high[j];
+        }
+        both
     }
 
     #[inline(always)]
     pub(super) fn fits(self) -> bool {
         self.both_bits() == 0
     }
+
+    /// Whether all trits are 0. A row is public and mostly told by its first word.
+    #[inline(always)]
+    pub(super) fn is_zero(self) -> bool {
+        let mut any = 0;
+        for j in 0..W {
+            any |= self.low[j] | self.high[j];
+        }
+        self.low[0] == 0 && any == 0
+    }
 }
 
 /// The bits w less the trits r: a trit with its planes in the other order is
 /// its negative.
 #[inline(always)]
-pub(super) fn difference(w: [u64; 4], r: Vector) -> Vector {
-    Vector::of(|j| sum(Trits { low: w[j], high: 0 }, fit(r.high[j], r.low[j])))
+pub(super) fn difference<const W: usize>(w: [u64; W], r: Vector<W>) -> Vector<W> {
+    let mut less = Vector::zero();
+    for j in 0..W {
+        less.set(j, sum(Trits::bits(w[j]), Trits::of(r.high[j], r.low[j])));
+    }
+    less
 }
 
-/// r + ŵ × r, to which side 0 adds ŵ: the planes of r change places where ŵ has
-/// a 1.
+/// r + ŵ × r, to which side 0 adds ŵ: 1 and 2 change places in r where ŵ has a 1.
 #[inline(always)]
-pub(super) fn share(side: u8, w: [u64; 4], r: Vector) -> Vector {
+pub(super) fn share<const W: usize>(side: u8, w: [u64; W], r: Vector<W>) -> Vector<W> {
     let side_mask = u64::from(side == 0).wrapping_neg();
-    Vector::of(|j| {
-        let turned = w[j] & (r.low[j] ^ r.high[j]);
-        let turned = fit(r.low[j] ^ turned, r.high[j] ^ turned);
-        sum(turned, Trits { low: w[j] & side_mask, high: 0 })
-    })
+    let mut share = Vector::zero();
+    for j in 0..W {
+        let nonzero = r.low[j] ^ r.high[j];
+        let own = Trits { nonzero, two: nonzero & (r.high[j] ^ w[j]) };
+        share.set(j, sum(own, Trits::bits(w[j] & side_mask)));
+    }
+    share
 }
 
-/// The sum of two codes.
-#[inline(always)]
-pub(super) fn add_code(a: &[u8; 22], b: &[u8; 22], out: &mut [u8; 22]) {
-    let read = |code: &[u8; 22], at| fit(word(code, at), word(code, CODE_PLANE + at));
-    let [i, j] = CODE_WORDS;
-    let (first, last) = (sum(read(a, i), read(b, i)), sum(read(a, j), read(b, j)));
-    let mut write = |at: usize, word: u64| *part_mut(out, at) = word.to_le_bytes();
-    write(i, first.low);
-    write(j, last.low);
-    write(CODE_PLANE + i, first.high);
-    write(CODE_PLANE + j, last.high);
-}
-
-/// A number that is 0 where no trit of a code has both bits set.
-#[inline(always)]
-pub(super) fn both_bits(code: &[u8; 22]) -> u64 {
-    let both = |at| word(code, at) & word(code, CODE_PLANE + at);
-    // The last seven places of the plane hold no trit.
-    both(CODE_WORDS[0]) | (both(CODE_WORDS[1]) << 7)
-}
-
-/// The bits of a code that are no trit's.
-#[inline(always)]
-pub(super) fn spare_bits(code: &[u8; 22]) -> u8 {
-    (code[10] | code[21]) >> 1
-}
-
-/// The sum of two codes, 22 bytes.
+/// The bits w less the trits r, 16 W bytes.
 #[inline(never)]
-pub fn add_codes(a: &[u8], b: &[u8], out: &mut [u8]) {
-    add_code(part(a, 0), part(b, 0), part_mut(out, 0));
+pub fn subtract_trits<const W: usize>(w: &[u8], r: &[u8], out: &mut [u8]) {
+    difference::<W>(words(w, 0), Vector::read(r, 0)).write(out, 0);
 }
 
-/// The bits w less the trits r, 64 bytes.
+/// The inner share of a side, of ŵ and r, 16 W bytes.
 #[inline(never)]
-pub fn subtract_trits(w: &[u8], r: &[u8], out: &mut [u8]) {
-    difference(words(part(w, 0)), Vector::read(part(r, 0))).write(part_mut(out, 0));
+pub fn inner_share<const W: usize>(side: u8, w: &[u8], r: &[u8], out: &mut [u8]) {
+    share::<W>(side, words(w, 0), Vector::read(r, 0)).write(out, 0);
 }
 
-/// The inner share of a side, of ŵ and r, 64 bytes.
+/// Whether no trit of a vector of 16 W bytes has both bits set.
 #[inline(never)]
-pub fn inner_share(side: u8, w: &[u8], r: &[u8], out: &mut [u8]) {
-    share(side, words(part(w, 0)), Vector::read(part(r, 0))).write(part_mut(out, 0));
+pub fn trits_fit<const W: usize>(v: &[u8]) -> bool {
+    Vector::<W>::read(v, 0).fits()
 }
 
-/// Whether no trit of a vector of 64 bytes has both bits set.
+/// Whether all trits of a row of 16 W bytes are 0.
 #[inline(never)]
-pub fn trits_fit(v: &[u8]) -> bool {
-    Vector::read(part(v, 0)).fits()
-}
-
-/// Whether no trit of a code of 22 bytes has both bits set.
-#[inline(never)]
-pub fn code_fits(v: &[u8]) -> bool {
-    both_bits(part(v, 0)) == 0
-}
-
-/// Whether the spare bits of a code of 22 bytes are 0.
-#[inline(never)]
-pub fn spare_bits_clear(v: &[u8]) -> bool {
-    spare_bits(part(v, 0)) == 0
+pub fn row_is_zero<const W: usize>(row: &[u8]) -> bool {
+    Vector::<W>::read(row, 0).is_zero()
 }

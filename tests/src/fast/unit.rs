@@ -94,10 +94,10 @@ pub fn step(state: &mut [u8], frame: &[u8], file: &[u8], out: &mut [u8], written
 /// It takes a deal, and writes its open frame.
 #[inline(always)]
 fn take_deal(state: &mut State, frame: &[u8; DEAL_BYTES], out: &mut Output) -> u32 {
-    if !Vector::read(part(frame, R - KEY_MASK + HEADER)).fits() {
+    if !Vector::<4>::read(frame, R - KEY_MASK + HEADER).fits() {
         return UNFIT_TRIT;
     }
-    let masked = |at| bits::xor(words(part(state, at)), words(part(frame, at)));
+    let masked = |at| bits::xor::<4>(words(state, at), words(frame, at));
     let (key, label) = (masked(KEY), masked(LABEL));
     write_header(OPEN, state[1], session(state), out);
     write_words(key, out, HEADER);
@@ -125,9 +125,9 @@ pub(super) fn own_mask(
 /// It takes the other's open frame, and writes its mask frame.
 #[inline(always)]
 fn take_open(state: &mut State, frame: &[u8; OPEN_BYTES], out: &mut Output) -> u32 {
-    let held = |at| words(part(state, at));
+    let held = |at| words(state, at);
     let (key_mask, label_mask) = (held(KEY_MASK), held(LABEL_MASK));
-    let summed = |at, mask| bits::xor(bits::xor(held(at), mask), words(part(frame, at)));
+    let summed = |at, mask| bits::xor(bits::xor(held(at), mask), words(frame, at));
     let both = [summed(KEY, key_mask), summed(LABEL, label_mask)];
     let mask = own_mask(state[1], both, [key_mask, label_mask, held(Z)]);
     write_header(MASK, state[1], session(state), out);
@@ -145,14 +145,14 @@ fn take_mask(
     file: &[u8; FILE_BYTES],
     out: &mut Output,
 ) -> u32 {
-    let w = bits::xor(words(part(state, OWN_MASK)), words(part(frame, HEADER)));
-    let inner = share(state[1], w, Vector::read(part(state, R)));
+    let w = bits::xor(words(state, OWN_MASK), words(frame, HEADER));
+    let inner = share(state[1], w, Vector::read(state, R));
     let (number, digits) = trit_rows(file, inner);
     if number != 0 {
         return number;
     }
     write_header(SHARE, state[1], session(state), out);
-    digits.write(part_mut(out, HEADER));
+    digits.write(&mut out[HEADER..]);
     *part_mut(state, KEY) = [0; STATE_BYTES - KEY];
     state[0] = DONE_STAGE;
     0

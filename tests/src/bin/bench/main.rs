@@ -1,11 +1,13 @@
 //! Times each call of the proved libraries beside the same work in Rust
-//! written for speed (`fast`), on the same buffers and in the same run.
+//! written for speed (`fast`), on the same buffers and in the same run. With a
+//! word, only the rows whose names have it.
 
 mod calls;
 #[path = "../../../tests/interface/mod.rs"]
 mod interface;
+#[path = "../../../tests/linear/library.rs"]
+mod library;
 mod linear;
-mod linked;
 mod sizes;
 mod sodium;
 mod timing;
@@ -29,14 +31,15 @@ fn main() {
     sizes::rows(&mut random, &mut sizes);
     let scalars = [0; 2].map(|_| std::array::from_fn(|_| random.byte()));
     let loaded = sodium::rows(scalars, &mut curve);
-    timing::measure(&mut [&mut calls, &mut sizes, &mut curve]);
+    let part = std::env::args().nth(1).unwrap_or_default();
+    timing::measure(&mut [&mut calls, &mut sizes, &mut curve], &part);
     calls.print_ratios();
-    println!("\nother sizes, ours");
-    sizes.print_times();
-    println!("\nfor comparison");
-    curve.print_times();
-    if !loaded {
-        println!("libsodium is not installed: its Curve25519 is not measured");
+    sizes.print_times("other sizes, ours");
+    curve.print_times("for comparison");
+    if part.is_empty() {
+        if !loaded {
+            println!("libsodium is not installed: its Curve25519 is not measured");
+        }
+        println!("{DOCUMENTS}");
     }
-    println!("{DOCUMENTS}");
 }

@@ -1,16 +1,17 @@
-//! How the cost of both products grows with their sizes. Only ours: the Rust
-//! written for speed has document 01's sizes alone.
+//! How the cost of both products grows with their sizes, beside the three sets'.
+//! Only ours: the Rust written for speed has the sets' sizes alone.
 
-use crate::linked;
+use crate::library;
 use crate::timing::Table;
 use service_pair_tests::random::Random;
 use std::hint::black_box;
 
-/// Bytes of a key and a label; document 01 has 32.
-const STRINGS: [usize; 7] = [8, 16, 31, 32, 33, 64, 128];
-/// Rows, and bytes of a row and the vector; document 01 has 81 and 64.
-const MATRICES: [(usize, usize); 8] =
-    [(27, 64), (81, 64), (162, 64), (81, 14), (81, 32), (81, 62), (81, 66), (81, 128)];
+/// Bytes of a key and a label; the sets have 8, 32 and 64.
+const STRINGS: [usize; 7] = [16, 24, 31, 33, 48, 65, 128];
+/// Rows, and bytes of a row and the vector; the sets have 21 of 16, 81 of 64 and
+/// 162 of 128.
+const MATRICES: [(usize, usize); 6] =
+    [(81, 14), (81, 32), (81, 62), (81, 66), (162, 64), (81, 256)];
 
 /// Adds the rows.
 pub fn rows(random: &mut Random, table: &mut Table) {
@@ -18,14 +19,14 @@ pub fn rows(random: &mut Random, table: &mut Table) {
         let [key, label] = [n; 2].map(|n| random.bytes(n));
         let mut out = vec![0; n];
         table.alone(&format!("circulant product, {n} bytes"), move || {
-            linked::circulant_product(black_box(&key), black_box(&label), &mut out)
+            library::circulant_product(black_box(&key), black_box(&label), &mut out)
         });
     }
     for (t, row) in MATRICES {
         let (rows, v) = (random.bytes(t * row), random.bytes(row));
         let mut out = vec![0; 2 * t.div_ceil(8)];
         table.alone(&format!("row products, {t} rows of {row} bytes"), move || {
-            linked::matrix_product(black_box(&rows), black_box(&v), t, &mut out)
+            library::matrix_product(black_box(&rows), black_box(&v), t, &mut out)
         });
     }
 }

@@ -5,7 +5,7 @@ use std::time::{Duration, Instant};
 
 /// How often every row is timed; the best round counts. The rows take turns, so
 /// that another program which takes the core for a while spoils no row.
-const ROUNDS: usize = 500;
+const ROUNDS: usize = 400;
 /// About how long a round of one side of a row takes.
 const ROUND: Duration = Duration::from_millis(1);
 
@@ -70,26 +70,32 @@ impl Table {
 
     /// Prints ours, Rust's, and ours divided by Rust's.
     pub fn print_ratios(&self) {
-        println!("| {:<44} | {:>12} | {:>12} | ratio", "call", "ours", "Rust");
-        println!("|{:-<46}|{:-<14}|{:-<14}|------", "", "", "");
+        println!("| {:<48} | {:>12} | {:>12} | ratio", "call", "ours", "Rust");
+        println!("|{:-<50}|{:-<14}|{:-<14}|------", "", "", "");
         for row in &self.rows {
             let (ours, rust) =
                 (row.ours.best, row.rust.as_ref().map_or(f64::NAN, |side| side.best));
             let (name, ratio) = (&row.name, ours / rust);
-            println!("| {name:<44} | {ours:>9.1} ns | {rust:>9.1} ns | {ratio:.2} x");
+            println!("| {name:<48} | {ours:>9.1} ns | {rust:>9.1} ns | {ratio:.2} x");
         }
     }
 
-    /// Prints one time a row.
-    pub fn print_times(&self) {
+    /// Prints one time a row, under a title.
+    pub fn print_times(&self, title: &str) {
+        if !self.rows.is_empty() {
+            println!("\n{title}");
+        }
         for row in &self.rows {
-            println!("| {:<44} | {:>9.1} ns", row.name, row.ours.best);
+            println!("| {:<48} | {:>9.1} ns", row.name, row.ours.best);
         }
     }
 }
 
-/// Times every row of these tables.
-pub fn measure(tables: &mut [&mut Table]) {
+/// Times the rows of these tables whose names have this part; the others go.
+pub fn measure(tables: &mut [&mut Table], part: &str) {
+    for table in tables.iter_mut() {
+        table.rows.retain(|row| row.name.contains(part));
+    }
     for _ in 0..ROUNDS {
         for row in tables.iter_mut().flat_map(|table| &mut table.rows) {
             row.ours.round();
