@@ -7,8 +7,6 @@ pub mod Contents
 pub mod Lengths
 pub mod Begins
 pub mod Advances
-pub mod Draws
-pub mod Samples
 pub mod Deals
 pub mod Evaluations
 pub mod Joins

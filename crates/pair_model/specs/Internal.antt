@@ -1,3 +1,2 @@
 -- What contracts of private functions say: no public contract cites it, and a reader of those need not believe it.
-pub mod Drawing
 pub mod Exchange

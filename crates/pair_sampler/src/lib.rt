@@ -1,2 +1,4 @@
 // The sampler: a tape from source bytes.
+pub mod drawing;
+pub mod packing;
 pub mod sampler;

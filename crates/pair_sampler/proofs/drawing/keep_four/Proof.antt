@@ -1,0 +1,25 @@
+-- `pair_sampler::drawing::keep_four` meets its contract: four stores, each where the one before has left off.
+use borrow.Author.Needs.{needs}
+use Rattle.pair_sampler.proofs.Draws.{kept-four}
+use Rattle.pair_sampler.proofs.drawing.keep_four.Statement.{statement}
+use Rattle.pair_sampler.proofs.drawing.keep_four.Tie as tie
+
+returns : tie.Need-returns
+returns c =
+    let four = c .before .before in
+    let three = four .before .before .before .before in
+    let two = three .before .before .before .before in
+    let one = two .before .before .before .before in
+    let a = one .before .before .before .args in
+    kept-four (a .four) (a .found) _ _ _ _ (a .trits .now) _ _ _ _ (one .keep .ensures) (two .keep2 .ensures) (three .keep3 .ensures) (four .keep4 .ensures)
+
+pub keep-four-spec : {M : Type 1} → statement M
+keep-four-spec =
+    tie.close
+    (tie.spec
+    (λ c κs. search needs)
+    (λ c κs. search needs)
+    (λ c κs. search needs)
+    (λ c κs. search needs)
+    (λ c. search needs)
+    returns)

@@ -1,0 +1,100 @@
+-- `pair_sampler::sampler::sample_sized` meets its contract: its number by what was found, and the tape in two parts.
+use mathlib.Core.Path.{_≡_, refl, sym, ap, _∙_}
+use Prim.Native.Nat.{ℕ, _+_, _*_, _/_, _≤_}
+use native.Mathlib.Omega.{arith}
+use borrow.Author.Needs.{needs}
+use lib.Dec.{lit<}
+use lib.Seq.{length-take-le}
+use Rattle.numbers.specs.Number.{output, reported}
+use Rattle.pair_model.specs.Sampler.{Drawn, used}
+use Rattle.pair_sampler.proofs.Draws.{zeros-small}
+use Rattle.pair_sampler.proofs.Samples.{sample-output, sample-source, sample-few, sample-done, drawn-is, drawn-few, drawn-enough, part-long, sample-written}
+use Rattle.pair_sampler.proofs.sampler.sample_sized.Statement.{statement}
+use Rattle.pair_sampler.proofs.sampler.sample_sized.Tie as tie
+
+returns : tie.Need-returns
+unfolding output reported
+returns c =
+    let r = c .refused .ensures in (
+      λ S e f. r .0 ∙ sample-output S _ _ (omega arith),
+      (λ S e f. rw (r .0, r .1), λ S e f. rw (r .0)),
+    )
+
+returns-2 : tie.Need-returns-2
+unfolding output reported
+returns-2 c =
+    let r = c .refused2 .ensures in (
+      λ S e f. r .0 ∙ sample-source S _ _ (omega arith) (omega arith),
+      (λ S e f. rw (r .0, r .1), λ S e f. rw (r .0)),
+    )
+
+draw-trits-requires : tie.Need-draw-trits-requires
+draw-trits-requires c κs = (lit< tt, omega arith, omega arith, zeros-small 256)
+
+returns-3 : tie.Need-returns-3
+unfolding output reported
+returns-3 c =
+    let r = c .refused3 .ensures in
+    let d = c .before .before .before .before in (
+      λ S e f. r .0 ∙ sample-few S _ _ (omega arith) (omega arith) (drawn-few S _ _ _ e f (d .draw-trits .ensures .short (omega arith))),
+      (λ S e f. rw (r .0, r .1), λ S e f. rw (r .0)),
+    )
+
+slice-aggregate-put : tie.Need-slice-aggregate-put
+slice-aggregate-put c = let s = c .before .before .before .before .before .before .before .before .before .before in sym (length-take-le _ (s .args .source .now) (omega arith))
+
+put-requires : tie.Need-put-requires
+put-requires c κs =
+    let a = c .before .before .before .before .before .before .before .before .before .before .before .args in
+    omega (arith, length-take-le (4 * a .key-bytes + 2 * a .inner-bytes) (a .source .now) (omega arith))
+
+pack-requires : tie.Need-pack-requires
+pack-requires c κs =
+    let d = c .before .before .before .before .before .before .before .before .before .before in
+    (omega arith, part-long _ _ _ (omega (arith, c .before .before .before .before .put .kept)), d .draw-trits .ensures .small)
+
+returns-4 : tie.Need-returns-4
+unfolding reported used
+returns-4 c =
+    let two = c .before .before .before in
+    let one = two .before .before .before .before .before in
+    let d = one .before .before .before .before .before .before in
+    let s = d .before .before .before .before .before .before in
+    let a = s .args in
+    let all = d .draw-trits .ensures .all (omega arith) in (
+      λ S e f. sample-done S _ _ (omega arith) (omega arith) (drawn-enough S _ _ _ e f _ (omega arith) (all .0)),
+      (
+        λ S e f. c .bytes-before .ensures ∙ ap (λ (x : ℕ). (x + 3) / 4) (sym (ap (λ (x : Drawn). x .next) (drawn-is S _ _ _ e f) ∙ all .1)),
+        λ S e f.
+            sample-written S (a .source .now) (a .key-bytes) (a .inner-bytes) e f _ (a .out .now) _ _ (omega arith) (omega arith) (all .0) (one .put .ensures) (two .pack .ensures),
+      ),
+    )
+
+pub sample-sized-spec : {M : Type 1} → statement M
+sample-sized-spec =
+    tie.close
+    (tie.spec
+    (λ c. omega arith)
+    (λ c. omega arith)
+    (λ c. omega arith)
+    (λ c. omega arith)
+    (λ c. omega arith)
+    (λ c. omega arith)
+    (λ c κs. search needs)
+    returns
+    (λ c κs. search needs)
+    returns-2
+    (λ c. search needs)
+    draw-trits-requires
+    (λ c κs. search needs)
+    returns-3
+    slice-aggregate-put
+    put-requires
+    (λ c. search needs)
+    (λ c. search needs)
+    (λ c. search needs)
+    (λ c. search needs)
+    pack-requires
+    (λ c κs. search needs)
+    (λ c. search needs)
+    returns-4)
