@@ -91,10 +91,7 @@ static void make_inputs(void)
     make_fit(tape + COPIED, sizeof tape - COPIED, PLANE);
     fill(keys[0], sizeof keys);
     fill(labels[0], sizeof labels);
-    memcpy(input, keys, sizeof keys);
-    memcpy(input + 64, labels, sizeof labels);
-    memcpy(input + 128, tape, sizeof tape);
-    memcpy(input + 384, file, sizeof file);
+    make_input(input, keys, labels, tape, file);
     hide(source, COPIED);
     hide(tape, sizeof tape);
     hide(keys, sizeof keys);

@@ -289,10 +289,7 @@ static void make_run(void)
         made("pair_begin", pair_begin((uint32_t)side, SESSION, keys[side], PAIR_KEY_BYTES, labels[side],
                                       PAIR_LABEL_BYTES, states[side][0], PAIR_STATE_BYTES));
     }
-    memcpy(input, keys, sizeof keys);
-    memcpy(input + 64, labels, sizeof labels);
-    memcpy(input + 128, tape, sizeof tape);
-    memcpy(input + 384, file, sizeof file);
+    make_input(input, keys, labels, tape, file);
     make_steps();
 }
 

@@ -52,10 +52,7 @@ static void make_inputs(void)
     made("pair_deal", pair_deal(SESSION, tape, sizeof tape, dealt, sizeof dealt));
     fill(keys[0], sizeof keys);
     fill(labels[0], sizeof labels);
-    memcpy(input, keys, sizeof keys);
-    memcpy(input + 64, labels, sizeof labels);
-    memcpy(input + 128, tape, sizeof tape);
-    memcpy(input + 384, file, sizeof file);
+    make_input(input, keys, labels, tape, file);
 }
 
 static void make_steps(void)

@@ -2,6 +2,7 @@
 //! write past an end or a missing one shows in the comparison of the whole.
 
 use crate::random::{seed, Random};
+use crate::reference::numbers::Answer;
 
 /// A slice lent to a library function, with the bytes around it.
 #[derive(Clone, Debug, PartialEq, Eq)]
@@ -72,6 +73,48 @@ pub fn compare_bytes<const COUNT: usize, Returned>(
         output.slice()
     );
     returned
+}
+
+/// Calls with every slice between guards and an output slice of `room` random
+/// bytes; number and all bytes must be the reference's.
+pub fn compare<const COUNT: usize>(
+    random: &mut Random,
+    name: &str,
+    inputs: [&[u8]; COUNT],
+    room: usize,
+    expected: &Answer,
+    call: impl FnOnce([&[u8]; COUNT], &mut [u8]) -> u32,
+) {
+    compare_counted(random, name, inputs, room, expected, |inputs, out, count| {
+        *count = 0;
+        call(inputs, out)
+    });
+}
+
+/// `compare` of a call that also reports a count, which held other bytes before.
+pub fn compare_counted<const COUNT: usize>(
+    random: &mut Random,
+    name: &str,
+    inputs: [&[u8]; COUNT],
+    room: usize,
+    expected: &Answer,
+    call: impl FnOnce([&[u8]; COUNT], &mut [u8], &mut u64) -> u32,
+) {
+    let before = random.bytes(room);
+    let mut count = random.word();
+    let bytes = &expected.bytes;
+    let number = compare_bytes(random, name, inputs, &before, bytes, |inputs, out| {
+        call(inputs, out, &mut count)
+    });
+    let found = (number, count);
+    let answer = (expected.number, expected.count);
+    let lengths = inputs.map(<[u8]>::len);
+    assert!(
+        found == answer,
+        "{name}: number and count are {found:?}, expected {answer:?}, SEED={}\n\
+         output slice of {room} bytes, inputs of {lengths:?} bytes: {inputs:?}",
+        seed()
+    );
 }
 
 #[cfg(test)]

@@ -155,3 +155,20 @@ pub fn change(random: &mut Random, bytes: &mut [u8], place: usize) {
         *byte ^= 1 + random.below(255) as u8;
     }
 }
+
+/// Mostly the right length, else one beside it or any.
+pub fn nearly(random: &mut Random, right: usize) -> usize {
+    match random.below(12) {
+        0 => right + 1,
+        1 => right.saturating_sub(1),
+        2 => random.below(2 * right + 20),
+        _ => right,
+    }
+}
+
+/// Cuts bytes or fills them up to a length.
+pub fn resized(random: &mut Random, mut bytes: Vec<u8>, length: usize) -> Vec<u8> {
+    bytes.truncate(length);
+    bytes.resize_with(length, || random.byte());
+    bytes
+}

@@ -3,7 +3,7 @@
 
 mod interface;
 
-use interface::compare;
+use service_pair_tests::guarded::compare;
 use service_pair_tests::random::{report, Random};
 use service_pair_tests::reference::matrix::{
     self, BLOCKS, BLOCK_BYTES, CHECK_AT, FILE_BYTES, ROWS, ROW_BYTES, ROW_SET_BYTES,

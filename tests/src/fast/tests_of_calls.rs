@@ -2,51 +2,21 @@
 //! fit, short, long and damaged inputs.
 
 use super::{dealer, evaluator, join, matrix, run, sampler, unit};
-use crate::guarded::compare_bytes;
+use crate::guarded::{compare, compare_counted};
 use crate::random::{report, seed, Random};
 use crate::reference;
 use crate::reference::frame::{frame_of, length_of_kind};
 use crate::reference::numbers::{Answer, DONE};
 use crate::samples::{
-    accepted_tape, change, chosen_faults, damage_file, fit_file, fit_inputs, fit_vector,
-    set_both_bits, FAULT_CHOICES,
+    accepted_tape, change, chosen_faults, damage_file, fit_file, fit_inputs, fit_vector, nearly,
+    resized, set_both_bits, FAULT_CHOICES,
 };
 use crate::state_layout::{decode, encode, STATE_BYTES};
 
-/// Calls with every slice between guards; number, count and bytes must be the
-/// reference's.
-fn compare<const COUNT: usize>(
-    random: &mut Random,
-    name: &str,
-    inputs: [&[u8]; COUNT],
-    room: usize,
-    expected: &Answer,
-    call: impl FnOnce([&[u8]; COUNT], &mut [u8], &mut u64) -> u32,
-) {
-    let before = random.bytes(room);
-    let mut count = 0;
-    let number = compare_bytes(random, name, inputs, &before, &expected.bytes, |inputs, out| {
-        call(inputs, out, &mut count)
-    });
-    assert_eq!((number, count), (expected.number, expected.count), "{name}, SEED={}", seed());
-}
-
-/// Mostly the right length, else one beside it or any.
-fn nearly(random: &mut Random, right: usize) -> usize {
-    match random.below(16) {
-        0 => right + 1,
-        1 => right.saturating_sub(1),
-        2 => random.below(2 * right + 20),
-        _ => right,
-    }
-}
-
 /// Now and then cut or filled up to another length.
-fn resized(random: &mut Random, mut bytes: Vec<u8>) -> Vec<u8> {
+fn any_length(random: &mut Random, bytes: Vec<u8>) -> Vec<u8> {
     let length = nearly(random, bytes.len());
-    bytes.truncate(length);
-    bytes.resize_with(length, || random.byte());
-    bytes
+    resized(random, bytes, length)
 }
 
 /// A file that is mostly fit, else with faults.
@@ -75,7 +45,7 @@ fn the_fast_check_gives_the_reference() {
     for trial in 0..count {
         let mut file = any_file(&mut random);
         match trial % 4 {
-            0 => file = resized(&mut random, file),
+            0 => file = any_length(&mut random, file),
             1 => {
                 let place = random.below(file.len());
                 change(&mut random, &mut file, place);
@@ -96,13 +66,13 @@ fn the_fast_evaluator_gives_the_reference() {
     for _ in 0..count {
         let [key, label] = [0, 1].map(|_| {
             let string = random.contents(32);
-            resized(&mut random, string)
+            any_length(&mut random, string)
         });
         let file = any_file(&mut random);
-        let (file, room) = (resized(&mut random, file), nearly(&mut random, 22));
+        let (file, room) = (any_length(&mut random, file), nearly(&mut random, 22));
         let expected = reference::evaluator::evaluate(&key, &label, &file, room);
         let inputs = [&key[..], &label, &file];
-        compare(&mut random, "evaluate", inputs, room, &expected, |[key, label, file], out, _| {
+        compare(&mut random, "evaluate", inputs, room, &expected, |[key, label, file], out| {
             evaluator::evaluate(key, label, file, out)
         });
     }
@@ -116,9 +86,9 @@ fn the_fast_dealer_gives_the_reference() {
     for _ in 0..count {
         let session = random.session();
         let tape = any_tape(&mut random);
-        let (tape, room) = (resized(&mut random, tape), nearly(&mut random, 332));
+        let (tape, room) = (any_length(&mut random, tape), nearly(&mut random, 332));
         let expected = reference::dealer::deal(session, &tape, room);
-        compare(&mut random, "deal", [&tape], room, &expected, |[tape], out, _| {
+        compare(&mut random, "deal", [&tape], room, &expected, |[tape], out| {
             dealer::deal(session, tape, out)
         });
 
@@ -126,13 +96,23 @@ fn the_fast_dealer_gives_the_reference() {
         let length = [nearly(&mut random, 342), nearly(&mut random, 192)][random.below(2)];
         let source = random.contents(length);
         let expected = reference::dealer::sample(&source, room);
-        compare(&mut random, "sample", [&source], room, &expected, |[source], out, used| {
-            sampler::sample(source, out, used)
-        });
+        compare_counted(
+            &mut random,
+            "sample",
+            [&source],
+            room,
+            &expected,
+            |[source], out, used| sampler::sample(source, out, used),
+        );
         let expected = reference::dealer::deal_source(session, &source, room);
-        compare(&mut random, "deal source", [&source], room, &expected, |[source], out, used| {
-            dealer::deal_source(session, source, out, used)
-        });
+        compare_counted(
+            &mut random,
+            "deal source",
+            [&source],
+            room,
+            &expected,
+            |[source], out, used| dealer::deal_source(session, source, out, used),
+        );
     }
     report("fast: dealer and sampler", count);
 }
@@ -144,7 +124,7 @@ fn the_fast_beginning_gives_the_reference() {
     for _ in 0..count {
         let [key, label] = [0, 1].map(|_| {
             let half = random.contents(32);
-            resized(&mut random, half)
+            any_length(&mut random, half)
         });
         let side = random.choose(&[0, 1, 0, 1, 2, 256, u32::MAX]);
         let (session, room) = (random.session(), nearly(&mut random, STATE_BYTES));
@@ -154,7 +134,7 @@ fn the_fast_beginning_gives_the_reference() {
             }
             _ => Answer::refused(1),
         };
-        compare(&mut random, "begin", [&key, &label], room, &expected, |[key, label], state, _| {
+        compare(&mut random, "begin", [&key, &label], room, &expected, |[key, label], state| {
             unit::begin(side, session, key, label, state)
         });
     }
@@ -182,7 +162,7 @@ fn state_and_frame(random: &mut Random) -> (Vec<u8>, Vec<u8>) {
             let place = random.below(6);
             change(random, &mut frame, place);
         }
-        1 => frame = resized(random, frame),
+        1 => frame = any_length(random, frame),
         2 if kind == 1 => set_both_bits(random, &mut frame, 102),
         _ => {}
     }
@@ -197,12 +177,12 @@ fn the_fast_step_gives_the_reference() {
     for _ in 0..count {
         let (mut state, frame) = state_and_frame(&mut random);
         let file = if frame.first() == Some(&3) { any_file(&mut random) } else { Vec::new() };
-        let (file, room) = (resized(&mut random, file), nearly(&mut random, 70));
+        let (file, room) = (any_length(&mut random, file), nearly(&mut random, 70));
         let before = decode(&state).expect("a stage and a side");
         let expected = reference::unit::step(&before, &frame, &file, room);
         let written = expected.written.len() as u64;
         let answer = Answer { number: expected.number, bytes: expected.written, count: written };
-        compare(
+        compare_counted(
             &mut random,
             "step",
             [&frame, &file],
@@ -241,7 +221,7 @@ fn share_frame(random: &mut Random, side: u8, session: u32) -> Vec<u8> {
         let place = random.below(6);
         change(random, &mut frame, place);
     }
-    resized(random, frame)
+    any_length(random, frame)
 }
 
 #[test]
@@ -253,7 +233,7 @@ fn the_fast_join_gives_the_reference() {
         let [a, b] = [0, 1].map(|side| share_frame(&mut random, side, session));
         let room = nearly(&mut random, 22);
         let expected = reference::join::join(&a, &b, room);
-        compare(&mut random, "join", [&a, &b], room, &expected, |[a, b], out, _| {
+        compare(&mut random, "join", [&a, &b], room, &expected, |[a, b], out| {
             join::join(a, b, out)
         });
     }
@@ -267,9 +247,9 @@ fn the_fast_run_gives_the_reference() {
     for _ in 0..count {
         let mut inputs = fit_inputs(&mut random);
         (inputs.tape, inputs.file) = (any_tape(&mut random), any_file(&mut random));
-        let (input, room) = (resized(&mut random, inputs.bytes()), nearly(&mut random, 22));
+        let (input, room) = (any_length(&mut random, inputs.bytes()), nearly(&mut random, 22));
         let expected = reference::program::pair_run(&input, room);
-        compare(&mut random, "run", [&input], room, &expected, |[input], out, _| {
+        compare(&mut random, "run", [&input], room, &expected, |[input], out| {
             run::pair_run(input, out)
         });
     }

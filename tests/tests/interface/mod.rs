@@ -1,5 +1,5 @@
 //! The C interface of the static library `protocol` as safe Rust functions on
-//! slices, and the comparison of a call with the reference's answer.
+//! slices.
 
 // Each test binary uses its own part of the interface.
 #![allow(dead_code)]
@@ -9,10 +9,6 @@ compile_error!(
     "libprotocol.a is not in target/staticlib (or in the folder that SERVICE_PAIR_LIB names): \
      run `rt staticlib protocol` in the repository's root to make it."
 );
-
-use service_pair_tests::guarded::compare_bytes;
-use service_pair_tests::random::{seed, Random};
-use service_pair_tests::reference::numbers::Answer;
 
 mod linked {
     /// A lent slice that is read, as the C interface passes it.
@@ -172,46 +168,4 @@ pub fn join(share0: &[u8], share1: &[u8], out: &mut [u8]) -> u32 {
 pub fn run(input: &[u8], out: &mut [u8]) -> u32 {
     let (output, room) = (out.as_mut_ptr(), out.len());
     unsafe { linked::pair_run(input.as_ptr(), input.len(), output, room) }
-}
-
-/// Calls with every slice between guards and an output slice of `room` random
-/// bytes; number and all bytes must be the reference's.
-pub fn compare<const COUNT: usize>(
-    random: &mut Random,
-    name: &str,
-    inputs: [&[u8]; COUNT],
-    room: usize,
-    expected: &Answer,
-    call: impl FnOnce([&[u8]; COUNT], &mut [u8]) -> u32,
-) {
-    compare_counted(random, name, inputs, room, expected, |inputs, out, count| {
-        *count = 0;
-        call(inputs, out)
-    });
-}
-
-/// `compare` of a call that also reports a count, which held other bytes before.
-pub fn compare_counted<const COUNT: usize>(
-    random: &mut Random,
-    name: &str,
-    inputs: [&[u8]; COUNT],
-    room: usize,
-    expected: &Answer,
-    call: impl FnOnce([&[u8]; COUNT], &mut [u8], &mut u64) -> u32,
-) {
-    let before = random.bytes(room);
-    let mut count = random.word();
-    let bytes = &expected.bytes;
-    let number = compare_bytes(random, name, inputs, &before, bytes, |inputs, out| {
-        call(inputs, out, &mut count)
-    });
-    let found = (number, count);
-    let answer = (expected.number, expected.count);
-    let lengths = inputs.map(<[u8]>::len);
-    assert!(
-        found == answer,
-        "{name}: number and count are {found:?}, expected {answer:?}, SEED={}\n\
-         output slice of {room} bytes, inputs of {lengths:?} bytes: {inputs:?}",
-        seed()
-    );
 }

@@ -1,34 +1,18 @@
 //! Evaluator, dealer, beginning and `pair_run` on fit, short, long and damaged
 //! inputs.
 
-use crate::interface::{self, compare, compare_counted};
-use service_pair_tests::guarded::Guarded;
+use crate::interface;
+use service_pair_tests::guarded::{compare, compare_counted, Guarded};
 use service_pair_tests::random::{report, seed, Random};
 use service_pair_tests::reference::dealer::{self, COPIED_BYTES};
 use service_pair_tests::reference::numbers::DONE;
 use service_pair_tests::reference::program::{self, INPUT_BYTES};
 use service_pair_tests::reference::{evaluator, unit};
 use service_pair_tests::samples::{
-    accepted_tape, chosen_faults, damage_file, fit_file, fit_inputs, set_both_bits, FAULT_CHOICES,
+    accepted_tape, chosen_faults, damage_file, fit_file, fit_inputs, nearly, resized,
+    set_both_bits, FAULT_CHOICES,
 };
 use service_pair_tests::state_layout::{encode, STATE_BYTES};
-
-/// Mostly the right length, else one beside it or any.
-fn nearly(random: &mut Random, right: usize) -> usize {
-    match random.below(12) {
-        0 => right + 1,
-        1 => right.saturating_sub(1),
-        2 => random.below(2 * right + 20),
-        _ => right,
-    }
-}
-
-/// Cuts bytes or fills them up to a length.
-fn resized(random: &mut Random, mut bytes: Vec<u8>, length: usize) -> Vec<u8> {
-    bytes.truncate(length);
-    bytes.resize_with(length, || random.byte());
-    bytes
-}
 
 /// A matrix file that is mostly fit, else with faults or of another length.
 fn any_file(random: &mut Random) -> Vec<u8> {

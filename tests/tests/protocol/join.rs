@@ -1,6 +1,7 @@
 //! Join on shares of whole runs, made up, flipped, cut and exchanged.
 
-use crate::interface::{self, compare};
+use crate::interface;
+use service_pair_tests::guarded::compare;
 use service_pair_tests::random::{report, Random};
 use service_pair_tests::reference::frame::{frame_of, SHARE};
 use service_pair_tests::reference::join;

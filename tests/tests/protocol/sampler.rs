@@ -1,6 +1,7 @@
 //! The sampler: all-3 sources, each boundary, and the unread rest.
 
-use crate::interface::{self, compare_counted};
+use crate::interface;
+use service_pair_tests::guarded::compare_counted;
 use service_pair_tests::random::{report, Random};
 use service_pair_tests::reference::dealer::{self, COPIED_BYTES, TAPE_BYTES, VECTOR_TRITS};
 use service_pair_tests::reference::numbers::Answer;
