@@ -81,3 +81,16 @@ fn the_fast_functions_give_the_reference() {
     size::<4, 81, 88>();
     size::<8, 162, 168>();
 }
+
+#[test]
+fn strings_of_other_words_give_the_reference() {
+    let mut random = Random::for_test("fast strings");
+    for _ in 0..100 {
+        strings::<2>(&mut random);
+        strings::<3>(&mut random);
+        strings::<5>(&mut random);
+        strings::<6>(&mut random);
+        strings::<7>(&mut random);
+    }
+    report("fast: sums and circulant products of other words", 500);
+}
