@@ -1,6 +1,7 @@
-//! Sums and the circulant product modulo 2, of 32 bytes.
+//! Sums modulo 2 of 32 bytes, and the circulant product of one to eight words.
 
-use super::{part, words, write_words};
+use super::{part, word, words, write_words};
+use std::array::from_fn;
 
 /// The sum of four words and four words.
 #[inline(always)]
@@ -20,30 +21,58 @@ pub fn add_bits_to(a: &[u8], out: &mut [u8]) {
     write_words(xor(words(part(a, 0)), words(part(out, 0))), out, 0);
 }
 
-/// The circulant of a key times a label, in words: the label turned by 64w + q
-/// places, for each key bit of that number, under the bit's mask. A turn by w
-/// words is another order of the words, so there are 64 turns by one place. The
-/// masks come first and the four words of a sum stand in one expression: a sum
-/// that takes one mask after the other is compiled to branches on the key's
-/// bits.
+/// The circulant of a key times a label, in W words. For each bit q of the key's
+/// words, from the highest down, the sum so far is turned by one place, and the
+/// label's words from a on are added under the mask of bit q of the key's word a.
+/// The masks come first, and each is used W times: one with a single use is
+/// compiled to a branch on the key's bit.
 #[inline(never)]
-pub(super) fn product(key: [u64; 4], label: [u64; 4]) -> [u64; 4] {
-    let mut turned = label;
-    let mut total = [0; 4];
-    for q in 0..64 {
-        let mask = |w: usize| ((key[w] >> q) & 1).wrapping_neg();
-        let masks = [mask(0), mask(1), mask(2), mask(3)];
-        let masked = |j: usize, w: usize| turned[(j + w) % 4] & masks[w];
-        let sum = |j: usize| masked(j, 0) ^ masked(j, 1) ^ masked(j, 2) ^ masked(j, 3);
-        total = [total[0] ^ sum(0), total[1] ^ sum(1), total[2] ^ sum(2), total[3] ^ sum(3)];
-        let turn = |j: usize| (turned[j] >> 1) | (turned[(j + 1) % 4] << 63);
-        turned = [turn(0), turn(1), turn(2), turn(3)];
+pub(super) fn product<const W: usize>(key: [u64; W], label: [u64; W]) -> [u64; W] {
+    if W == 1 {
+        return [word_product(key[0], label[0]); W];
+    }
+    let mut total = [0; W];
+    for q in (0..64).rev() {
+        let masks: [u64; W] = from_fn(|a| ((key[a] >> q) & 1).wrapping_neg());
+        total = from_fn(|j| (total[j] >> 1) | (total[(j + 1) % W] << 63));
+        for (a, mask) in masks.iter().enumerate() {
+            for (j, sum) in total.iter_mut().enumerate() {
+                *sum ^= mask & label[(a + j) % W];
+            }
+        }
     }
     total
 }
 
-/// The circulant of a key times a label.
+/// The same of one word: a mask has bits q and 32 + q of the key, each in a half.
+/// On the label turned by q places both halves add to the product's low half,
+/// and on the same with its halves exchanged to the high one.
+#[inline(always)]
+fn word_product(mut key: u64, mut label: u64) -> u64 {
+    let (mut low, mut high) = (0, 0);
+    for _ in 0..32 {
+        let mask = (key & 0x1_0000_0001) * 0xffff_ffff;
+        low ^= mask & label;
+        high ^= mask & label.rotate_right(32);
+        label = label.rotate_right(1);
+        key >>= 1;
+    }
+    let both = |sum: u64| (sum ^ (sum >> 32)) & 0xffff_ffff;
+    both(low) | both(high) << 32
+}
+
+/// The circulant of a key times a label, of 8W bytes.
+#[inline(never)]
+pub fn circulant_product_words<const W: usize>(key: &[u8], label: &[u8], out: &mut [u8]) {
+    let words = |bytes: &[u8]| from_fn(|j| word(bytes, 8 * j));
+    let product: [u64; W] = product(words(key), words(label));
+    for (bytes, word) in out[..8 * W].chunks_exact_mut(8).zip(product) {
+        bytes.copy_from_slice(&word.to_le_bytes());
+    }
+}
+
+/// The circulant of a key times a label, of 32 bytes.
 #[inline(never)]
 pub fn circulant_product(key: &[u8], label: &[u8], out: &mut [u8]) {
-    write_words(product(words(part(key, 0)), words(part(label, 0))), out, 0);
+    circulant_product_words::<4>(key, label, out);
 }

@@ -51,6 +51,29 @@ fn the_fast_functions_give_the_reference() {
     report("fast: the functions of linear", MANY);
 }
 
+/// The products of W words.
+fn product_of_words<const W: usize>(random: &mut Random) {
+    for _ in 0..100 {
+        let [key, label] = [8 * W; 2].map(|n| random.contents(n));
+        let found = output(random, bits::circulant_product_words::<W>, [&key, &label], 8 * W);
+        assert_eq!(found, reference::bits::circulant_product(&key, &label, 8 * W));
+    }
+}
+
+#[test]
+fn the_fast_products_of_words_give_the_reference() {
+    let mut random = Random::for_test("fast words");
+    product_of_words::<1>(&mut random);
+    product_of_words::<2>(&mut random);
+    product_of_words::<3>(&mut random);
+    product_of_words::<4>(&mut random);
+    product_of_words::<5>(&mut random);
+    product_of_words::<6>(&mut random);
+    product_of_words::<7>(&mut random);
+    product_of_words::<8>(&mut random);
+    report("fast: circulant products of one to eight words", 800);
+}
+
 #[test]
 fn the_fast_row_products_give_the_reference() {
     let mut random = Random::for_test("fast rows");
