@@ -1,4 +1,4 @@
-// The circulant product modulo 2: strings of 32 bytes by rotations, others row by row. No branch depends on a bit.
+// The circulant product modulo 2: up to eight whole words by rotations, others row by row. No branch depends on a bit.
 ghost use mathlib.Core.Path.{_≡_};
 ghost use Prim.Native.Nat.{_+_, _-_, _*_, _%_, _^_, _<_, _≤_};
 ghost use lib.ListN.{length};
@@ -6,6 +6,7 @@ ghost use Rattle.linear_model.specs.Tables.{sum, from};
 ghost use Rattle.linear_model.specs.Bits.{byteOf, fromBits, bit};
 ghost use Rattle.linear_model.specs.Products.{bitRow, circulant, circulantProduct};
 ghost use Rattle.linear_model.specs.Internal.Words.{shiftTerm};
+use crate::halves;
 use crate::rotations;
 use linear_words::bytes;
 use linear_words::bytes::byte_at;
@@ -55,8 +56,13 @@ fn circulant_bytes(key: &[u8], label: &[u8], out: &mut [u8])
 pub fn circulant_product(key: &[u8], label: &[u8], out: &mut [u8])
     ensures { λ _. ⌜ now (out .exit) ≡ circulantProduct (length (now (out .entry))) (now (key .entry)) (now (label .entry)) ⌝ }
 {
-    if out.len() == 32 && key.len() == 32 && label.len() == 32 {
-        words::put_four(out, 0, rotations::product(key, label));
+    let n = out.len();
+    if n == 8 {
+        words::put_word(out, 0, halves::product(word_at(key, 0), word_at(label, 0)));
+        return;
+    }
+    if n % 8 == 0 && 8 < n && n <= 64 {
+        rotations::product(key, label, out, n / 8);
         return;
     }
     circulant_bytes(key, label, out);

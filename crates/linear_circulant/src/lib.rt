@@ -1,3 +1,4 @@
 // The circulant product modulo 2.
 pub mod circulant;
+mod halves;
 mod rotations;

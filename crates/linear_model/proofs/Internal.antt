@@ -2,7 +2,9 @@
 pub mod Stores
 pub mod Thirds
 pub mod Circulant
+pub mod Overwriting
 pub mod Rotations
+pub mod Halves
 pub mod Planes
 pub mod Gathers
 pub mod Matrix

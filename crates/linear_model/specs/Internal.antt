@@ -2,3 +2,4 @@
 pub mod Words
 pub mod Planes
 pub mod Tests
+pub mod Rotations

@@ -1,40 +1,28 @@
--- Laws of the circulant product of 32 bytes: the label's rotations, under masks of the key's bits, add up to the rows.
+-- Laws of the circulant product by words: from the highest bit of the key's words down, the sum so far is rotated and the label is added under masks.
 use mathlib.Core.Path.{_≡_, refl, sym, ap, ap₂, _∙_}
 use mathlib.Core.List.{List}
 use Prim.Native.Nat.{ℕ, zero, suc, _+_, _-_, _*_, _/_, _%_, _^_, _<_, _≤_}
-use native.Mathlib.Nat.{add-zero, zero-add, mul-comm, mul-zero, mod-eq-of-lt, add-mod-right, mod-add-mod, add-mod-mod}
+use native.Mathlib.Nat.{zero-add, add-comm, mul-zero, mod-eq-of-lt, add-mod-right, mod-add-mod}
+use native.Mathlib.Numerals.{add-one}
+use native.Mathlib.Decide.{decLt}
 use native.Mathlib.Omega.{arith}
-use lib.Bits.{bitXor, bitAnd, bitOr}
+use lib.Bits.{bitXor, bitAnd, xor-lt, and-le-l}
 use lib.Dec.{eqb}
-use lib.Pow.{shr-shr}
+use lib.ListN.{length, getD}
+use lib.Seq.{getD-set-same, getD-set-other}
 use Rattle.linear_model.specs.Tables.{from, sum, every}
-use Rattle.linear_model.specs.Bits.{bitAt, bit, fromBits}
-use Rattle.linear_model.specs.Products.{bitTerm, bitRow, circulant}
-use Rattle.linear_model.specs.Internal.Words.{Four, four, masked, FourWords}
+use Rattle.linear_model.specs.Bits.{bitAt, bit, zeros, pack}
+use Rattle.linear_model.specs.Products.{bitTerm, bitRow, bitProduct, circulant, circulantProduct}
+use Rattle.linear_model.specs.Internal.Rotations.{Bits, Words, Overwritten, wordOf, closed, rotatedAt, addedAt, maskAt, maskTerm, added, Added, keyTerm, stepped, Stepped, Factors, hornerTerm, hornerColumn, horner}
 use Rattle.linear_model.proofs.Tables.{every-at, same₁}
-use Rattle.linear_model.proofs.NumberBits.{from-bits-none, from-bits-ext, from-bits-of, bit-at-from-bits, bit-at-xor, bit-at-and}
-use Rattle.linear_model.proofs.Sums.{sum-more, sum-split, sum-ext, sum-zero}
-use Rattle.linear_model.proofs.Strings.{bit-lt}
-use Rattle.linear_model.proofs.WordBits.{window-is, word-bit-at}
+use Rattle.linear_model.proofs.NumberBits.{from-bits-none, from-bits-ext, from-bits-lt, from-bits-of, bit-at-from-bits, bit-at-xor, bit-at-and}
+use Rattle.linear_model.proofs.Sums.{sum-more, sum-split, sum-front, sum-ext, sum-zero}
+use Rattle.linear_model.proofs.Strings.{bit-lt, pack-ext, getD-zeros}
+use Rattle.linear_model.proofs.WordBits.{window-is}
 use Rattle.linear_model.proofs.Internal.Circulant.{around-once}
+use Rattle.linear_model.proofs.Internal.Overwriting.{overwritten-at}
 
--- a bit, repeated in all 64 places
-pub mask-bit-at : (b k : ℕ) → b < 2 → k < 64 → bitAt (b * 0xffffffffffffffff) k ≡ b
-unfolding every
-mask-bit-at b k h l =
-    same₁ 64 (bitAt (b * 0xffffffffffffffff)) (λ _. b) (every-at 2 (λ b. every 64 (λ k. eqb (bitAt (b * 0xffffffffffffffff) k) b)) tt b h) k l
-
--- exclusive or of four words under their masks
-pub masked-bit-at : (s : ℕ) (x m : Four) (k : ℕ)
-    → bitAt (bitXor s (bitXor (bitXor (bitXor (bitAnd (x .a) (m .a)) (bitAnd (x .b) (m .b))) (bitAnd (x .c) (m .c))) (bitAnd (x .d) (m .d)))) k ≡ masked s x m k
-masked-bit-at s x m k =
-    rw (bit-at-xor, bit-at-xor, bit-at-xor, bit-at-xor, bit-at-and, bit-at-and, bit-at-and, bit-at-and) (flat (bitAt s k) _ _ _ _)
-  where
-    flat : (s a b c d : ℕ) → (s + (((a + b) % 2 + c) % 2 + d) % 2) % 2 ≡ (s + a + b + c + d) % 2
-    flat s a b c d = simp (mod-add-mod, add-mod-mod) (ap (λ (n : ℕ). n % 2) (group s a b c d))
-      where
-        group : (s a b c d : ℕ) → s + (a + b + c + d) ≡ s + a + b + c + d
-        group s a b c d = omega arith
+-- ---- a row as a sum over the key's bits
 
 -- bit j of x, counted around its 8n bits
 abbrev pub around : ℕ → List ℕ → ℕ → ℕ
@@ -66,13 +54,6 @@ row-rotated n key x i h =
     let whole′ : sum (8 * n) g ≡ sum m g + sum i (from m g) = ap (λ (k : ℕ). sum k g) e′ ∙ sum-split m i g in
     ap (λ (s : ℕ). s % 2) (omega arith)
 
--- the part of a row's sum from the key's bits 64w + r, r below q
-abbrev rotationFour : List ℕ → List ℕ → ℕ → ℕ → ℕ
-rotationFour key x i r = sum 4 (λ w. rotationTerm 32 key x i (64 * w + r))
-
-abbrev pub rotationSum : List ℕ → List ℕ → ℕ → ℕ → ℕ
-rotationSum key x q i = sum q (rotationFour key x i) % 2
-
 -- sums over rows and over columns are the same
 sum-grid : (n m : ℕ) (f : ℕ → ℕ) → sum n (λ r. sum m (λ w. f (n * w + r))) ≡ sum (n * m) f
 unfolding sum
@@ -89,140 +70,178 @@ sum-grid n (suc m) f =
     both zero f g = refl
     both (suc n) f g = omega (arith, both n f g)
 
--- all 64 of them are the row
-rotations-all : (key x : List ℕ) (i : ℕ) → i < 256 → rotationSum key x 64 i ≡ bitRow 32 (circulant 32 key) x i
-rotations-all key x i h = ap (λ (s : ℕ). s % 2) (sum-grid 64 4 (rotationTerm 32 key x i)) ∙ sym (row-rotated 32 key x i h)
+-- ---- masks
 
--- four words of what repeats after 256 places, rotated by a word and by one bit
-module _ (x : List ℕ) where
-  around-again : (j : ℕ) → around 32 x (j + 256) ≡ around 32 x j
-  around-again j = ap (bit x) (add-mod-right j 256)
+-- a bit, repeated in all 64 places
+pub mask-bit-at : (b k : ℕ) → b < 2 → k < 64 → bitAt (b * 0xffffffffffffffff) k ≡ b
+unfolding every
+mask-bit-at b k h l =
+    same₁ 64 (bitAt (b * 0xffffffffffffffff)) (λ _. b) (every-at 2 (λ b. every 64 (λ k. eqb (bitAt (b * 0xffffffffffffffff) k) b)) tt b h) k l
 
-  around-lt : (j : ℕ) → around 32 x j < 2
-  around-lt j = bit-lt x (j % 256)
+-- ---- words under masks
 
-  last-word : (j a : ℕ) → a ≡ fromBits 64 (from j (around 32 x)) → a ≡ fromBits 64 (from (j + 256) (around 32 x))
-  last-word j a e =
-      e ∙ from-bits-ext 64 (from j (around 32 x)) (from (j + 256) (around 32 x)) (λ k _. sym (ap (around 32 x) (omega arith) ∙ around-again (j + k)))
-
-  pub four-by-word : {j a b c d p q r s : ℕ} → FourWords (around 32 x) j a b c d → p ≡ b → q ≡ c → r ≡ d → s ≡ a → FourWords (around 32 x) (j + 64) p q r s
-  four-by-word {j} {a} {b} {c} {d} {p} {q} {r} {s} h ep eq er es =
-      let at : (k y : ℕ) → y ≡ fromBits 64 (from (j + (64 + k)) (around 32 x)) → y ≡ fromBits 64 (from (j + 64 + k) (around 32 x)) =
-      λ k y e. let o : j + (64 + k) ≡ j + 64 + k = omega arith in rw o at e
-      in
-      record { first = ep ∙ h .second; second = at 64 q (eq ∙ h .third); third = at 128 r (er ∙ h .fourth); fourth = at 192 s (last-word j s (es ∙ h .first)) }
-
-  one-more : (j a b : ℕ) → a ≡ fromBits 64 (from j (around 32 x)) → b ≡ fromBits 64 (from (j + 64) (around 32 x))
-      → bitOr (a / 2 ^ 1) (b * 2 ^ 63 % 2 ^ 64) ≡ fromBits 64 (from (j + 1) (around 32 x))
-  one-more j a b ea eb =
-      let f = around 32 x in
-      window-is 64 1 a b (from j f) (omega arith) (omega arith) (λ i. around-lt (j + i)) ea
-      (eb ∙ from-bits-ext 64 (from (j + 64) f) (from 64 (from j f)) (λ i _. ap f (omega arith)))
-      ∙ from-bits-ext 64 (from 1 (from j f)) (from (j + 1) f) (λ i _. ap f (omega arith))
-
-  pub four-by-bit : {j a b c d p q r s : ℕ} → FourWords (around 32 x) j a b c d
-      → p ≡ bitOr (a / 2 ^ 1) (b * 2 ^ 63 % 2 ^ 64) → q ≡ bitOr (b / 2 ^ 1) (c * 2 ^ 63 % 2 ^ 64)
-      → r ≡ bitOr (c / 2 ^ 1) (d * 2 ^ 63 % 2 ^ 64) → s ≡ bitOr (d / 2 ^ 1) (a * 2 ^ 63 % 2 ^ 64) → FourWords (around 32 x) (j + 1) p q r s
-  four-by-bit {j} {a} {b} {c} {d} {p} {q} {r} {s} h ep eq er es =
-      let at : (k l y : ℕ) → j + k ≡ l → y ≡ fromBits 64 (from (j + k) (around 32 x)) → y ≡ fromBits 64 (from l (around 32 x)) =
-      λ k l y o e. rw o at e
-      in
-      let to : (k l y : ℕ) → l ≡ j + 1 + k → y ≡ fromBits 64 (from l (around 32 x)) → y ≡ fromBits 64 (from (j + 1 + k) (around 32 x)) =
-      λ k l y o e. rw o at e
-      in
-      record {
-        first = ep ∙ one-more j a b (h .first) (h .second);
-        second = to 64 (j + 64 + 1) q (omega arith) (eq ∙ one-more (j + 64) b c (h .second) (at 128 (j + 64 + 64) c (omega arith) (h .third)));
-        third = to 128 (j + 128 + 1) r (omega arith) (er ∙ one-more (j + 128) c d (h .third) (at 192 (j + 128 + 64) d (omega arith) (h .fourth)));
-        fourth = to 192 (j + 192 + 1) s (omega arith) (es ∙ one-more (j + 192) d a (h .fourth) (at 256 (j + 192 + 64) a (omega arith) (last-word j a (h .first))));
-      }
-
-added : (s t a b c d u v w z : ℕ) → s ≡ t % 2 → a ≡ u → b ≡ v → c ≡ w → d ≡ z → (s + a + b + c + d) % 2 ≡ (t + (0 + u + v + w + z)) % 2
-added s t a b c d u v w z es ea eb ec ed = rw (es, ea, eb, ec, ed) (ap (λ (n : ℕ). n % 2) group ∙ mod-add-mod t 2 (0 + u + v + w + z))
-  where
-    group : t % 2 + u + v + w + z ≡ t % 2 + (0 + u + v + w + z)
-    group = omega arith
-
--- four words, each shifted right by q
-pub record Shifted (q a b c d ka kb kc kd : ℕ) : Type 0 where
-  pub first : ka ≡ a / 2 ^ q
-  pub second : kb ≡ b / 2 ^ q
-  pub third : kc ≡ c / 2 ^ q
-  pub fourth : kd ≡ d / 2 ^ q
-
-pub shifted-none : {a b c d : ℕ} → Shifted 0 a b c d a b c d
-shifted-none = record { first = omega arith; second = omega arith; third = omega arith; fourth = omega arith }
-
-module _ {q a b c d ka kb kc kd : ℕ} (m : Shifted q a b c d ka kb kc kd) where
-  pub shifted-more : {p r s t : ℕ} → p ≡ ka / 2 ^ 1 → r ≡ kb / 2 ^ 1 → s ≡ kc / 2 ^ 1 → t ≡ kd / 2 ^ 1 → Shifted (q + 1) a b c d p r s t
-  shifted-more ep er es et =
-      record { first = more _ _ _ (m .first) ep; second = more _ _ _ (m .second) er; third = more _ _ _ (m .third) es; fourth = more _ _ _ (m .fourth) et }
-    where
-      more : (a k p : ℕ) → k ≡ a / 2 ^ q → p ≡ k / 2 ^ 1 → p ≡ a / 2 ^ (q + 1)
-      more a k p e f = f ∙ ap (λ (x : ℕ). x / 2 ^ 1) e ∙ shr-shr a q 1
-
-  -- masks of the lowest bits are those of bits q
-  pub shifted-masks : (p r s t k : ℕ) → (bitAt p k ≡ bitAt ka 0) × (bitAt r k ≡ bitAt kb 0) × (bitAt s k ≡ bitAt kc 0) × (bitAt t k ≡ bitAt kd 0)
-      → (bitAt p k ≡ bitAt a q) × (bitAt r k ≡ bitAt b q) × (bitAt s k ≡ bitAt c q) × (bitAt t k ≡ bitAt d q)
-  shifted-masks p r s t k e = (e .0 ∙ lowest _ _ (m .first), e .1 ∙ lowest _ _ (m .second), e .2 ∙ lowest _ _ (m .third), e .3 ∙ lowest _ _ (m .fourth))
-    where
-      lowest : (a k : ℕ) → k ≡ a / 2 ^ q → bitAt k 0 ≡ bitAt a q
-      lowest a k e = ap (λ (x : ℕ). bitAt x 0) e ∙ ap (λ (x : ℕ). x % 2) (shr-shr a q 0 ∙ ap (λ (n : ℕ). a / 2 ^ n) (add-zero q))
-
--- the masks of the key's bits 64w + q
-pub key-masks : (key : List ℕ) (q ka kb kc kd : ℕ) {a b c d : ℕ} → q < 64 → FourWords (bit key) 0 a b c d
-    → ((k : ℕ) → k < 64 → (bitAt ka k ≡ bitAt a q) × (bitAt kb k ≡ bitAt b q) × (bitAt kc k ≡ bitAt c q) × (bitAt kd k ≡ bitAt d q))
-    → (k : ℕ) → k < 64 → (bitAt ka k ≡ bit key q) × (bitAt kb k ≡ bit key (64 + q)) × (bitAt kc k ≡ bit key (128 + q)) × (bitAt kd k ≡ bit key (192 + q))
-key-masks key q ka kb kc kd {a} {b} {c} {d} h e m k l = (
-  m k l .0 ∙ word-bit-at key 0 a (e .first) q h ∙ ap (bit key) (zero-add q),
-  m k l .1 ∙ word-bit-at key 64 b (e .second) q h,
-  m k l .2 ∙ word-bit-at key 128 c (e .third) q h,
-  m k l .3 ∙ word-bit-at key 192 d (e .fourth) q h,
-)
-
--- one word of the sum more: the four words of the label under the key's bits 64w + q
-pub rotation-more : (key x : List ℕ) (q j o ka kb kc kd : ℕ) {s r a b c d : ℕ} → o ≡ q + j → r < 2 ^ 64
-    → s ≡ fromBits 64 (from j (rotationSum key x q)) → FourWords (around 32 x) o a b c d
-    → ((k : ℕ) → bitAt r k ≡ masked s (four a b c d) (four ka kb kc kd) k)
-    → ((k : ℕ) → k < 64 → (bitAt ka k ≡ bit key q) × (bitAt kb k ≡ bit key (64 + q)) × (bitAt kc k ≡ bit key (128 + q)) × (bitAt kd k ≡ bit key (192 + q)))
-    → r ≡ fromBits 64 (from j (rotationSum key x (q + 1)))
+pub words-none : (f : ℕ → ℕ) (m l : List ℕ) (w : ℕ) (d : List ℕ) → Bits f → Words f w d → Words (added 0 f m l) w d
 unfolding sum
-rotation-more key x q j o ka kb kc kd {s} {r} {a} {b} {c} {d} eo h es e er ek =
-    let f = around 32 x in
-    let term : (k w y m : ℕ) → k < 64 → y ≡ fromBits 64 (from (o + 64 * w) f) → bitAt m k ≡ bit key (64 * w + q)
-    → bitAt y k * bitAt m k ≡ rotationTerm 32 key x (j + k) (64 * w + q) =
-    λ k w y m l p b. let z : o + 64 * w + k ≡ j + k + (64 * w + q) = omega arith in
-    ap₂ _*_ (ap (λ (t : ℕ). bitAt t k) p ∙ bit-at-from-bits 64 (from (o + 64 * w) f) (λ i. around-lt x (o + 64 * w + i)) k l ∙ ap f z) b
-    ∙ mul-comm (f (j + k + (64 * w + q))) (bit key (64 * w + q))
-    in
-    let first : a ≡ fromBits 64 (from (o + 0) f) = e .first ∙ ap (λ (i : ℕ). fromBits 64 (from i f)) (sym (add-zero o)) in
-    from-bits-of 64 r (from j (rotationSum key x (q + 1))) h
-    (λ k l. let before : bitAt s k ≡ rotationSum key x q (j + k) =
-    ap (λ (t : ℕ). bitAt t k) es ∙ bit-at-from-bits 64 (from j (rotationSum key x q)) (λ i. omega arith) k l
-    in
-    er k ∙ added _ _ _ _ _ _ _ _ _ _ before (term k 0 a ka l first (ek k l .0 ∙ ap (bit key) (sym (zero-add q)))) (term k 1 b kb l (e .second) (ek k l .1))
-    (term k 2 c kc l (e .third) (ek k l .2)) (term k 3 d kd l (e .fourth) (ek k l .3))
-    ∙ ap (λ (n : ℕ). n % 2) (sym (sum-more q (rotationFour key x (j + k)))))
+words-none f m l w d b ws j h = ws j h ∙ from-bits-ext 64 (from (64 * j) f) (from (64 * j) (added 0 f m l)) (λ k r. omega (arith, b (64 * j + k)))
 
--- where the loop begins
-pub four-around : (x : List ℕ) {a b c d : ℕ} → FourWords (bit x) 0 a b c d → FourWords (around 32 x) 0 a b c d
-four-around x q =
-    record { first = q .first ∙ e 0 (omega arith); second = q .second ∙ e 64 (omega arith); third = q .third ∙ e 128 (omega arith); fourth = q .fourth ∙ e 192 (omega arith) }
+-- one word of the key more
+pub words-more : (f : ℕ → ℕ) (m l : List ℕ) (a w : ℕ) {d acc : List ℕ} → getD m a 0 < 2 ^ 64 → Words (added a f m l) w d
+    → Overwritten (addedAt d l a (getD m a 0)) 0 w d acc → Words (added (a + 1) f m l) w acc
+words-more f m l a w {d} {acc} hm ws p j h =
+    let x = getD d j 0 in
+    let y = getD l (a + j) 0 in
+    let z = getD m a 0 in
+    let g = from (64 * j) (added a f m l) in
+    let small : x < 2 ^ 64 = rw (ws j h) (from-bits-lt 64 g (λ i. omega arith)) in
+    overwritten-at p j h
+    ∙ from-bits-of 64 (bitXor x (bitAnd z y)) (from (64 * j) (added (a + 1) f m l)) (xor-lt 64 x (bitAnd z y) small (omega (arith, and-le-l z y)))
+    (λ k r. let i = 64 * j + k in
+    let t = maskTerm m l i in
+    let ex : bitAt x k ≡ (f i + sum a t) % 2 = ap (λ (n : ℕ). bitAt n k) (ws j h) ∙ bit-at-from-bits 64 g (λ i. omega arith) k r in
+    let o : k ≡ i % 64 = omega arith in
+    let o′ : a + j ≡ a + i / 64 = omega arith in
+    let ey : bitAt (bitAnd z y) k ≡ t a = bit-at-and z y k ∙ ap₂ (λ (u v : ℕ). bitAt z v * bitAt (getD l u 0) v) o′ o in
+    let s : f i + sum a t + t a ≡ f i + sum (a + 1) t = omega (arith, sum-more a t) in
+    bit-at-xor x (bitAnd z y) k ∙ ap₂ (λ (u v : ℕ). (u + v) % 2) ex ey ∙ mod-add-mod (f i + sum a t) 2 (t a) ∙ ap (λ (n : ℕ). n % 2) s)
+
+-- ---- the rotation
+
+words-rotated : (w : ℕ) (f : ℕ → ℕ) (d l : List ℕ) → Bits f → ((i : ℕ) → f (i + 64 * w) ≡ f i) → 0 < w → w < length d
+    → Words f w d → Overwritten (rotatedAt (closed w d)) 0 w (closed w d) l → Words (from 1 f) w l
+words-rotated w f d l b again hw hd ws p j h =
+    overwritten-at p j h
+    ∙ window-is 64 1 (getD c j 0) (getD c (j + 1) 0) (from (64 * j) f) (omega arith) (omega arith) (λ i. b (64 * j + i)) (all j (omega arith))
+    (all (j + 1) (omega arith) ∙ from-bits-ext 64 (from (64 * (j + 1)) f) (from 64 (from (64 * j) f)) (λ k _. ap f (omega arith)))
+    ∙ from-bits-ext 64 (from 1 (from (64 * j) f)) (from (64 * j) (from 1 f)) (λ k _. ap f (omega arith))
   where
-    e : (o : ℕ) → o + 64 ≤ 256 → fromBits 64 (from o (bit x)) ≡ fromBits 64 (from o (around 32 x))
-    e o h = from-bits-ext 64 (from o (bit x)) (from o (around 32 x)) (λ k l. ap (bit x) (sym (mod-eq-of-lt {n = o + k} {m = 256} (omega arith))))
+    c : List ℕ
+    c = closed w d
 
-pub four-none : (key x : List ℕ) → FourWords (rotationSum key x 0) 0 0 0 0 0
+    pick : (i : ℕ) → i ≤ w → Dec (i < w) → getD (closed w d) i 0 ≡ wordOf f i
+    pick i r (yes s) = getD-set-other d w i (getD d 0 0) 0 (omega arith) ∙ ws i s
+    pick i r (no s) =
+        let o : i ≡ w = omega arith in
+        rw o (getD-set-same d w (getD d 0 0) 0 hd ∙ ws 0 hw
+        ∙ from-bits-ext 64 (from (64 * 0) f) (from (64 * w) f) (λ k _. let z : 64 * 0 + k ≡ k = omega arith in ap f z ∙ sym (again k) ∙ ap f (add-comm k (64 * w))))
+
+    all : (i : ℕ) → i ≤ w → getD (closed w d) i 0 ≡ wordOf f i
+    all i r = pick i r (decLt i w)
+
+-- the sum so far rotated, and what the masks of bits q of the key's words add
+pub words-stepped : (w : ℕ) (k l : List ℕ) (q : ℕ) {z m d r acc : List ℕ} → 0 < w → w < length d → Overwritten (maskAt k q) 0 w z m
+    → Overwritten (rotatedAt (closed w d)) 0 w (closed w d) r → Added w m l r acc → Stepped w k l q d acc
+words-stepped w k l q {z} {m} {d} {r} {acc} hw hd hm hr ha =
+    record {
+      long = ha .long;
+      words = λ f b again ws j h. ha .words small (from 1 f) (λ i. b (1 + i)) (words-rotated w f d r b again hw hd ws hr) j h
+          ∙ from-bits-ext 64 (from (64 * j) (added w (from 1 f) m l)) (from (64 * j) (stepped w f k l q))
+          (λ i _. ap (λ (s : ℕ). (f (1 + (64 * j + i)) + s) % 2) (sum-ext w (maskTerm m l (64 * j + i)) (keyTerm k l q (64 * j + i)) (term (64 * j + i))));
+    }
+  where
+    small : (a : ℕ) → a < w → getD m a 0 < 2 ^ 64
+    small a h = rw (overwritten-at hm a h) (omega arith)
+
+    term : (i a : ℕ) → a < w → maskTerm m l i a ≡ keyTerm k l q i a
+    term i a h =
+        ap (λ (y : ℕ). bitAt y (i % 64) * bitAt (getD l (a + i / 64) 0) (i % 64)) (overwritten-at hm a h)
+        ∙ ap (λ (y : ℕ). y * bitAt (getD l (a + i / 64) 0) (i % 64)) (mask-bit-at (bitAt (getD k a 0) q) (i % 64) (omega arith) (omega arith))
+
+-- ---- the sum so far
+
+pub horner-none : (w : ℕ) (key label : ℕ → ℕ) (q : ℕ) → Words (horner w key label q 0) w (zeros 9)
 unfolding sum
-four-none key x = record { first = e 0; second = e 64; third = e 128; fourth = e 192 }
-  where
-    e : (o : ℕ) → 0 ≡ fromBits 64 (from o (rotationSum key x 0))
-    e o = sym (from-bits-none 64 (from o (rotationSum key x 0)) (λ _ _. refl))
+horner-none w key label q j h = getD-zeros 9 j ∙ sym (from-bits-none 64 (from (64 * j) (horner w key label q 0)) (λ _ _. refl))
 
--- where it ends
-pub four-all : (key x : List ℕ) {a b c d : ℕ} → FourWords (rotationSum key x 64) 0 a b c d → FourWords (bitRow 32 (circulant 32 key) x) 0 a b c d
-four-all key x q =
-    record { first = q .first ∙ e 0 (omega arith); second = q .second ∙ e 64 (omega arith); third = q .third ∙ e 128 (omega arith); fourth = q .fourth ∙ e 192 (omega arith) }
+module _ {w : ℕ} {key label : ℕ → ℕ} {k l : List ℕ} (fs : Factors w key label k l) where
+  horner-again : (q p i : ℕ) → horner w key label q p (i + 64 * w) ≡ horner w key label q p i
+  horner-again q p i =
+      ap (λ (n : ℕ). n % 2) (sum-ext p (hornerColumn w key label q (i + 64 * w)) (hornerColumn w key label q i)
+      (λ r _. sum-ext w (hornerTerm key label q (i + 64 * w) r) (hornerTerm key label q i r)
+      (λ a _. let e : i + 64 * w + (64 * a + r) ≡ i + (64 * a + r) + 64 * w = omega arith in
+      ap (λ (n : ℕ). key (64 * a + (q + r)) * n) (ap label e ∙ fs .again (i + (64 * a + r))))))
+
+  -- what one step adds is one bit of each of the key's words more
+  step-bits : (q p i : ℕ) → q < 64 → i < 64 * w → stepped w (horner w key label (q + 1) p) k l q i ≡ horner w key label q (p + 1) i
+  step-bits q p i hq hi =
+      let s = sum p (hornerColumn w key label (q + 1) (1 + i)) in
+      let c : sum w (keyTerm k l q i) ≡ hornerColumn w key label q i 0 =
+      sum-ext w (keyTerm k l q i) (hornerTerm key label q i 0)
+      (λ a ha. let o : 64 * (a + i / 64) + i % 64 ≡ i + (64 * a + 0) = omega arith in
+      let o′ : 64 * a + q ≡ 64 * a + (q + 0) = omega arith in
+      let ha′ : a + i / 64 < 2 * w = omega arith in
+      ap₂ _*_
+      (ap (λ (z : ℕ). bitAt z q) (fs .keyWords a ha) ∙ bit-at-from-bits 64 (from (64 * a) key) (λ n. fs .keyBits (64 * a + n)) q hq ∙ ap key o′)
+      (ap (λ (z : ℕ). bitAt z (i % 64)) (fs .labelWords (a + i / 64) ha′)
+      ∙ bit-at-from-bits 64 (from (64 * (a + i / 64)) label) (λ n. fs .labelBits (64 * (a + i / 64) + n)) (i % 64) (omega arith) ∙ ap label o))
+      in
+      let u : sum p (λ r. hornerColumn w key label q i (suc r)) ≡ s =
+      sum-ext p (λ r. hornerColumn w key label q i (suc r)) (hornerColumn w key label (q + 1) (1 + i))
+      (λ r _. sum-ext w (hornerTerm key label q i (suc r)) (hornerTerm key label (q + 1) (1 + i) r)
+      (λ a _. let o : 64 * a + (q + suc r) ≡ 64 * a + (q + 1 + r) = omega arith in
+      let o′ : i + (64 * a + suc r) ≡ 1 + i + (64 * a + r) = omega arith in
+      ap₂ (λ (u v : ℕ). key u * label v) o o′))
+      in
+      let all : sum (p + 1) (hornerColumn w key label q i) ≡ hornerColumn w key label q i 0 + s =
+      ap (λ (n : ℕ). sum n (hornerColumn w key label q i)) (add-one p) ∙ sum-front p (hornerColumn w key label q i) ∙ ap (λ (n : ℕ). hornerColumn w key label q i 0 + n) u
+      in
+      let sums : s + sum w (keyTerm k l q i) ≡ sum (p + 1) (hornerColumn w key label q i) = omega arith in
+      mod-add-mod s 2 (sum w (keyTerm k l q i)) ∙ ap (λ (n : ℕ). n % 2) sums
+
+  -- one step of the loop
+  pub horner-step : (q r : ℕ) {d acc : List ℕ} → q ≡ r + 1 → q ≤ 64 → Words (horner w key label q (64 - q)) w d → Stepped w k l r d acc
+      → Words (horner w key label r (64 - r)) w acc
+  horner-step q r {d} {acc} eq hq ws s j h =
+      let p = 64 - (r + 1) in
+      let f = horner w key label (r + 1) p in
+      let o : 64 - r ≡ p + 1 = omega arith in
+      let now : Words f w d = rw eq at ws in
+      rw o (s .words f (λ i. omega arith) (horner-again (r + 1) p) now j h
+      ∙ from-bits-ext 64 (from (64 * j) (stepped w f k l r)) (from (64 * j) (horner w key label r (p + 1))) (λ i t. step-bits r p (64 * j + i) (omega arith) (omega arith)))
+
+-- ---- the product
+
+-- the label's words, twice over, and the key's
+pub factors : (w : ℕ) (key x : List ℕ) {z k y l l′ : List ℕ} → Overwritten (wordOf (bit key)) 0 w z k → Overwritten (wordOf (bit x)) 0 w y l
+    → Overwritten (wordOf (bit x)) w w l l′ → Factors w (bit key) (around (8 * w) x) k l′
+factors w key x {z} {k} {y} {l} {l′} hk p p′ =
+    record {
+      keyBits = bit-lt key;
+      labelBits = λ j. bit-lt x (j % (8 * (8 * w)));
+      again = again;
+      keyWords = overwritten-at hk;
+      labelWords = λ j h. pick j h (decLt j w);
+    }
   where
-    e : (o : ℕ) → o + 64 ≤ 256 → fromBits 64 (from o (rotationSum key x 64)) ≡ fromBits 64 (from o (bitRow 32 (circulant 32 key) x))
-    e o h = from-bits-ext 64 (from o (rotationSum key x 64)) (from o (bitRow 32 (circulant 32 key) x)) (λ k l. rotations-all key x (o + k) (omega arith))
+    again : (j : ℕ) → around (8 * w) x (j + 64 * w) ≡ around (8 * w) x j
+    again j =
+        let e : j + 64 * w ≡ j + 8 * (8 * w) = omega arith in
+        ap (around (8 * w) x) e ∙ ap (bit x) (add-mod-right j (8 * (8 * w)))
+
+    pick : (j : ℕ) → j < 2 * w → Dec (j < w) → getD l′ j 0 ≡ wordOf (around (8 * w) x) j
+    pick j h (yes r) =
+        p′ .before j r ∙ overwritten-at p j r
+        ∙ from-bits-ext 64 (from (64 * j) (bit x)) (from (64 * j) (around (8 * w) x)) (λ k s. ap (bit x) (sym (mod-eq-of-lt {n = 64 * j + k} (omega arith))))
+    pick j h (no r) =
+        let i = j - w in
+        let e : j ≡ w + i = omega arith in
+        ap (λ (n : ℕ). getD l′ n 0) e ∙ p′ .at i (omega arith)
+        ∙ from-bits-ext 64 (from (64 * i) (bit x)) (from (64 * j) (around (8 * w) x))
+        (λ k s. let o : 64 * i + k + 64 * w ≡ 64 * j + k = omega arith in
+        sym (ap (around (8 * w) x) (sym o) ∙ again (64 * i + k) ∙ ap (bit x) (mod-eq-of-lt {n = 64 * i + k} (omega arith))))
+
+-- all 64 steps are the row
+horner-all : (w : ℕ) (key x : List ℕ) (i : ℕ) → i < 64 * w → horner w (bit key) (around (8 * w) x) 0 64 i ≡ bitRow (8 * w) (circulant (8 * w) key) x i
+horner-all w key x i h =
+    let f = rotationTerm (8 * w) key x i in
+    let e : sum 64 (hornerColumn w (bit key) (around (8 * w) x) 0 i) ≡ sum 64 (λ r. sum w (λ a. f (64 * a + r))) =
+    sum-ext 64 (hornerColumn w (bit key) (around (8 * w) x) 0 i) (λ r. sum w (λ a. f (64 * a + r)))
+    (λ r _. sum-ext w (hornerTerm (bit key) (around (8 * w) x) 0 i r) (λ a. f (64 * a + r))
+    (λ a _. ap (λ (n : ℕ). bit key (64 * a + n) * around (8 * w) x (i + (64 * a + r))) (zero-add r)))
+    in
+    let o : 64 * w ≡ 8 * (8 * w) = omega arith in
+    ap (λ (n : ℕ). n % 2) (e ∙ sum-grid 64 w f ∙ ap (λ (n : ℕ). sum n f) o) ∙ sym (row-rotated (8 * w) key x i (omega arith))
+
+pub product-packed : (w : ℕ) (key x : List ℕ) → pack (8 * w) (horner w (bit key) (around (8 * w) x) 0 64) ≡ circulantProduct (8 * w) key x
+unfolding bitProduct
+product-packed w key x =
+    pack-ext (8 * w) (horner w (bit key) (around (8 * w) x) 0 64) (bitRow (8 * w) (circulant (8 * w) key) x) (λ j h. horner-all w key x j (omega arith))

@@ -4,7 +4,7 @@ use mathlib.Core.Path.{_≡_}
 use mathlib.Core.List.{List}
 use lib.ListN.{set}
 use Rattle.linear_model.specs.Tables.{from}
-use Rattle.linear_model.specs.Bits.{bitAt, bit, fromBits}
+use Rattle.linear_model.specs.Bits.{bit, fromBits}
 
 -- a, b, c, d are the words of the 256 bits of f from j on
 pub record FourWords (f : ℕ → ℕ) (j a b c d : ℕ) : Type 0 where
@@ -22,21 +22,6 @@ setWord s i x = setHalf (setHalf s i x) (i + 4) (x / 2 ^ 32)
 
 unfoldable pub setFour : List ℕ → ℕ → ℕ → ℕ → ℕ → ℕ → List ℕ
 setFour s i a b c d = setWord (setWord (setWord (setWord s i a) (i + 8) b) (i + 16) c) (i + 24) d
-
--- four words
-pub record Four : Type 0 where
-  pub a : ℕ
-  pub b : ℕ
-  pub c : ℕ
-  pub d : ℕ
-
-abbrev pub four : ℕ → ℕ → ℕ → ℕ → Four
-four a b c d = record { a = a; b = b; c = c; d = d }
-
--- bit k of s, to which four words x are added under their masks m, modulo 2
-abbrev pub masked : ℕ → Four → Four → ℕ → ℕ
-masked s x m k =
-    (bitAt s k + bitAt (x .a) k * bitAt (m .a) k + bitAt (x .b) k * bitAt (m .b) k + bitAt (x .c) k * bitAt (m .c) k + bitAt (x .d) k * bitAt (m .d) k) % 2
 
 -- bit j of a times bit s + j of b
 abbrev pub shiftTerm : List ℕ → List ℕ → ℕ → ℕ → ℕ

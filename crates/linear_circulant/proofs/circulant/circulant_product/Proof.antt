@@ -1,30 +1,35 @@
--- `linear_circulant::circulant::circulant_product` meets its contract. The words of 32 bytes are those of the product; other lengths go row by row.
+-- `linear_circulant::circulant::circulant_product` meets its contract. One word goes by halves, up to eight by rotations; other lengths go row by row.
 use mathlib.Core.Path.{_≡_, _∙_}
 use native.Mathlib.Omega.{arith}
-use borrow.Author.Tests.{eqb-true}
+use borrow.Author.Tests.{eqb-true, ltb-true, leb-true}
 use borrow.Author.Needs.{needs}
 use lib.ListN.{length}
-use Rattle.linear_model.specs.Products.{bitRow, bitProduct, circulant}
-use Rattle.linear_model.proofs.Internal.Stores.{string-stored}
+use Rattle.linear_model.proofs.Internal.Halves.{word-product-stored}
 use Rattle.linear_circulant.proofs.circulant.circulant_product.Statement.{statement}
 use Rattle.linear_circulant.proofs.circulant.circulant_product.Tie as tie
 
 returns : tie.Need-returns
-unfolding bitProduct
 returns c =
-    let a = c .before .before .before .before .before .before .before .before .before .before .before .args in
-    let e : length (a .out .now) ≡ 32 = omega arith in
-    rw e (c .before .before .put-four .ensures
-    ∙ string-stored (bitRow 32 (circulant 32 (a .key .now)) (a .label .now)) _ _ _ _ _ (λ j. omega arith) e (c .before .before .before .product .ensures))
+    let p = c .before .before in
+    let x = p .before .before in
+    let k = x .before in
+    let a = k .before .before .before .before .before .before .args in
+    let e : length (a .out .now) ≡ 8 = omega arith in
+    rw e (p .put-word .ensures ∙ word-product-stored (a .key .now) (a .label .now) (a .out .now) e (k .word-at .ensures) (x .word-at2 .ensures) (p .before .product .ensures))
 
 pub circulant-product-spec : {M : Type 1} → statement M
 circulant-product-spec =
     tie.close
     (tie.spec
-    (λ c κs. omega (arith, eqb-true))
-    (λ c κs. omega (arith, eqb-true))
-    (λ c. search needs)
-    returns
+    (λ c κs. search needs)
+    (λ c κs. search needs)
+    (λ c κs. search needs)
     (λ c κs. search needs)
     (λ c. search needs)
-    (λ c. c .before .before .circulant-bytes .ensures))
+    returns
+    (λ c κs. omega (arith, eqb-true, ltb-true, leb-true))
+    (λ c. search needs)
+    (λ c. search needs)
+    (λ c κs. search needs)
+    (λ c. search needs)
+    (λ c. search needs))

@@ -1,17 +1,43 @@
--- `linear_circulant::rotations::masks` meets its contract. Each mask is one of the four.
-use borrow.Author.Needs.{needs}
+-- `linear_circulant::rotations::masks` meets its contract. The invariant of its loop: a masks are stored.
+use mathlib.Core.Path.{_≡_}
+use Prim.Native.Nat.{_-_, _≤_}
+use native.Mathlib.Omega.{arith}
+use Rattle.linear_model.specs.Internal.Rotations.{Overwritten, maskAt}
+use Rattle.linear_model.proofs.Internal.Overwriting.{overwritten-none, overwritten-more}
 use Rattle.linear_circulant.proofs.rotations.masks.Statement.{statement}
 use Rattle.linear_circulant.proofs.rotations.masks.Tie as tie
 
-returns : tie.Need-returns
-returns c k l = (c .before .before .before .mask .ensures k l, c .before .before .mask2 .ensures k l, c .before .mask3 .ensures k l, c .mask4 .ensures k l)
+abbrev Inv-loop : tie.InvT-loop
+Inv-loop key to₀ q w a₀ to a = (a ≤ w) × Overwritten (maskAt key q) 0 a to₀ to
+
+abbrev μ-loop : tie.MeasureT-loop
+μ-loop key to₀ q w a₀ to a = w - a
+
+loop-again : tie.Need-loop-again Inv-loop μ-loop
+loop-again c =
+    let l = c .before .before .before .loop in
+    (omega arith, overwritten-more (l .a) (l .inv .1) (omega arith) (omega arith) (c .mask .ensures))
+
+returns : tie.Need-returns Inv-loop μ-loop
+returns c =
+    let l = c .before in
+    let e : l .loop .a ≡ l .before .args .w = omega arith in
+    rw e at (l .loop .inv .1)
 
 pub masks-spec : {M : Type 1} → statement M
 masks-spec =
     tie.close
     (tie.spec
-    (λ c κs. search needs)
-    (λ c κs. search needs)
-    (λ c κs. search needs)
-    (λ c κs. search needs)
+    Inv-loop
+    μ-loop
+    (λ c. (omega arith, overwritten-none))
+    (λ c. omega arith)
+    (λ c. omega arith)
+    (λ c. omega arith)
+    (λ c κs. omega arith)
+    (λ c. omega arith)
+    (λ c. omega arith)
+    (λ c. omega arith)
+    (λ c. omega arith)
+    loop-again
     returns)
