@@ -1,2 +1,4 @@
 // Rows of trits times a vector, modulo 3.
+mod digits;
+mod partial;
 pub mod rows;

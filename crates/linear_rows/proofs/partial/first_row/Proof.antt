@@ -1,10 +1,11 @@
--- `linear_rows::rows::first_row` meets its contract. The first row stands at the start.
+-- `linear_rows::partial::first_row` meets its contract. The first row stands at the start.
 use mathlib.Core.Path.{_∙_}
 use native.Mathlib.Omega.{arith}
 use borrow.Author.Needs.{needs}
+use Rattle.linear_model.specs.Tables.{sum}
 use Rattle.linear_model.proofs.Internal.Matrix.{matrix-first, matrix-none}
-use Rattle.linear_rows.proofs.rows.first_row.Statement.{statement}
-use Rattle.linear_rows.proofs.rows.first_row.Tie as tie
+use Rattle.linear_rows.proofs.partial.first_row.Statement.{statement}
+use Rattle.linear_rows.proofs.partial.first_row.Tie as tie
 
 returns : tie.Need-returns
 returns c =
@@ -20,6 +21,6 @@ pub first-row-spec : {M : Type 1} → statement M
 first-row-spec =
     tie.close
     (tie.spec
-    (λ c κs. search needs)
+    (λ c κs. unfold sum in (omega arith, omega arith, omega arith))
     returns
     returns-2)
