@@ -1,4 +1,2 @@
-// Rows of trits times a vector, modulo 3.
-mod digits;
-mod partial;
+// Rows of trits times a vector, modulo 3, by words.
 pub mod rows;

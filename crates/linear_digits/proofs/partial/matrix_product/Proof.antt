@@ -1,4 +1,4 @@
--- `linear_rows::partial::matrix_product` meets its contract. The invariant of its loop: `at` is where row 8p starts, `left` rows are left from there, and the first p bytes of each plane are those of the product.
+-- `linear_digits::partial::matrix_product` meets its contract. The invariant of its loop: `at` is where row 8p starts, `left` rows are left from there, and the first p bytes of each plane are those of the product.
 use mathlib.Core.Path.{_≡_, _∙_}
 use Prim.Native.Nat.{_+_, _-_, _*_, _/_, min}
 use native.Mathlib.Nat.{zero-add}
@@ -10,8 +10,8 @@ use Rattle.linear_model.specs.Internal.Planes.{PlaneBits}
 use Rattle.linear_model.proofs.Filling.{Planes, planes-none, planes-more, planes-all}
 use Rattle.linear_model.proofs.Internal.Planes.{plane-bits-ext}
 use Rattle.linear_model.proofs.Internal.Matrix.{row-is}
-use Rattle.linear_rows.proofs.partial.matrix_product.Statement.{statement}
-use Rattle.linear_rows.proofs.partial.matrix_product.Tie as tie
+use Rattle.linear_digits.proofs.partial.matrix_product.Statement.{statement}
+use Rattle.linear_digits.proofs.partial.matrix_product.Tie as tie
 
 abbrev Inv-loop : tie.InvT-loop
 Inv-loop rows v t out₀ step n at₀ left₀ p₀ out at left p =

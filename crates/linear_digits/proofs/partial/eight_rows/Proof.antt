@@ -1,4 +1,4 @@
--- `linear_rows::partial::eight_rows` meets its contract. The invariant of its loop: `at` is where row q starts, `left` rows are left from there, and `lo` and `hi` have the first q bits.
+-- `linear_digits::partial::eight_rows` meets its contract. The invariant of its loop: `at` is where row q starts, `left` rows are left from there, and `lo` and `hi` have the first q bits.
 use mathlib.Core.Path.{_≡_, ap, _∙_}
 use mathlib.Core.List.{List}
 use Prim.Native.Nat.{ℕ, _+_, _-_, _*_, _/_, _%_, _≤_, min}
@@ -12,8 +12,8 @@ use Rattle.linear_model.specs.Products.{rowDigit}
 use Rattle.linear_model.proofs.NumberBits.{or-more}
 use Rattle.linear_model.proofs.Linearity.{digit-below}
 use Rattle.linear_model.proofs.Internal.Matrix.{row-is}
-use Rattle.linear_rows.proofs.partial.eight_rows.Statement.{statement}
-use Rattle.linear_rows.proofs.partial.eight_rows.Tie as tie
+use Rattle.linear_digits.proofs.partial.eight_rows.Statement.{statement}
+use Rattle.linear_digits.proofs.partial.eight_rows.Tie as tie
 
 abbrev Inv-loop : tie.InvT-loop
 Inv-loop rows v t step at₀ left₀ lo₀ hi₀ q₀ at left lo hi q =

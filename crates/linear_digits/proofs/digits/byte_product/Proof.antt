@@ -1,9 +1,9 @@
--- `linear_rows::digits::byte_product` meets its contract. The bytes hold the trits of eight columns.
+-- `linear_digits::digits::byte_product` meets its contract. The bytes hold the trits of eight columns.
 use mathlib.Core.Path.{_∙_}
 use borrow.Author.Needs.{needs}
 use Rattle.linear_model.proofs.Internal.Planes.{trit-byte, product-terms}
-use Rattle.linear_rows.proofs.digits.byte_product.Statement.{statement}
-use Rattle.linear_rows.proofs.digits.byte_product.Tie as tie
+use Rattle.linear_digits.proofs.digits.byte_product.Statement.{statement}
+use Rattle.linear_digits.proofs.digits.byte_product.Tie as tie
 
 returns : tie.Need-returns
 returns c =

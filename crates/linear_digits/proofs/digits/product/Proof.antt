@@ -1,9 +1,9 @@
--- `linear_rows::digits::product` meets its contract. The table is the definition's, at each of its nine entries.
+-- `linear_digits::digits::product` meets its contract. The table is the definition's, at each of its nine entries.
 use mathlib.Core.Path.{refl}
 use borrow.Author.Needs.{needs}
 use Rattle.linear_model.specs.Digits.{digitProduct}
-use Rattle.linear_rows.proofs.digits.product.Statement.{statement}
-use Rattle.linear_rows.proofs.digits.product.Tie as tie
+use Rattle.linear_digits.proofs.digits.product.Statement.{statement}
+use Rattle.linear_digits.proofs.digits.product.Tie as tie
 
 returns : tie.Need-returns
 unfolding digitProduct

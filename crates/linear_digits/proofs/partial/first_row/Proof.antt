@@ -1,11 +1,11 @@
--- `linear_rows::partial::first_row` meets its contract. The first row stands at the start.
+-- `linear_digits::partial::first_row` meets its contract. The first row stands at the start.
 use mathlib.Core.Path.{_∙_}
 use native.Mathlib.Omega.{arith}
 use borrow.Author.Needs.{needs}
 use Rattle.linear_model.specs.Tables.{sum}
 use Rattle.linear_model.proofs.Internal.Matrix.{matrix-first, matrix-none}
-use Rattle.linear_rows.proofs.partial.first_row.Statement.{statement}
-use Rattle.linear_rows.proofs.partial.first_row.Tie as tie
+use Rattle.linear_digits.proofs.partial.first_row.Statement.{statement}
+use Rattle.linear_digits.proofs.partial.first_row.Tie as tie
 
 returns : tie.Need-returns
 returns c =

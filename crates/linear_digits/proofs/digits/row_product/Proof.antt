@@ -1,12 +1,12 @@
--- `linear_rows::digits::row_product` meets its contract. The invariant of its loop: `acc` is the sum of the columns of the first i bytes.
+-- `linear_digits::digits::row_product` meets its contract. The invariant of its loop: `acc` is the sum of the columns of the first i bytes.
 use mathlib.Core.Path.{_≡_}
 use Prim.Native.Nat.{_-_, _*_, _%_, _≤_}
 use native.Mathlib.Omega.{arith}
 use Rattle.linear_model.specs.Tables.{sum}
 use Rattle.linear_model.specs.Products.{tritTerm}
 use Rattle.linear_model.proofs.Internal.Planes.{mod-more}
-use Rattle.linear_rows.proofs.digits.row_product.Statement.{statement}
-use Rattle.linear_rows.proofs.digits.row_product.Tie as tie
+use Rattle.linear_digits.proofs.digits.row_product.Statement.{statement}
+use Rattle.linear_digits.proofs.digits.row_product.Tie as tie
 
 abbrev Inv-loop : tie.InvT-loop
 Inv-loop row v m first before acc₀ i₀ acc i = (i ≤ m) × (acc ≡ sum (8 * i) (tritTerm m row v) % 3)

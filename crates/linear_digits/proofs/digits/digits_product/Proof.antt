@@ -1,4 +1,4 @@
--- `linear_rows::digits::digits_product` meets its contract. The invariant of its loop: `acc` is the sum of the table's entries for the first k digits.
+-- `linear_digits::digits::digits_product` meets its contract. The invariant of its loop: `acc` is the sum of the table's entries for the first k digits.
 use mathlib.Core.Path.{_≡_, ap, ap₂, _∙_}
 use Prim.Native.Nat.{ℕ, _+_, _-_, _*_, _%_, _<_, _≤_}
 use native.Mathlib.Omega.{arith}
@@ -7,8 +7,8 @@ use Rattle.linear_model.specs.Digits.{digitProduct}
 use Rattle.linear_model.specs.Internal.Planes.{tritOf, tritProduct}
 use Rattle.linear_model.proofs.Sums.{sum-more}
 use Rattle.linear_model.proofs.Digits.{remainder-product}
-use Rattle.linear_rows.proofs.digits.digits_product.Statement.{statement}
-use Rattle.linear_rows.proofs.digits.digits_product.Tie as tie
+use Rattle.linear_digits.proofs.digits.digits_product.Statement.{statement}
+use Rattle.linear_digits.proofs.digits.digits_product.Tie as tie
 
 abbrev Inv-loop : tie.InvT-loop
 Inv-loop x u y w acc₀ k₀ acc k = (k ≤ 8) × (acc ≤ 2 * k) × (acc ≡ sum k (tritProduct x u y w))
