@@ -1,80 +1,106 @@
-// Tests of trit vectors in two planes. No branch depends on a vector's bytes but in `row_is_zero`, whose row is public. Vectors of 64
-// bytes and codes of 22 go by words, other lengths byte by byte.
+// Tests of trit vectors in two planes. No branch depends on a vector's bytes but in `row_is_zero`, whose row is public. Planes of eight
+// bytes or more are tested for fitness by words, the last of which may begin within the one before it; all else goes byte by byte.
 ghost use mathlib.Core.Path.{_≡_};
 ghost use Prim.Native.Nat.{_+_, _*_, _/_, _%_, _^_, _<_, _≤_, min};
 ghost use lib.Dec.{eqb};
 ghost use lib.ListN.{length};
-ghost use Rattle.linear_model.specs.Tables.{every};
-ghost use Rattle.linear_model.specs.Bits.{byteOf};
-ghost use Rattle.linear_model.specs.Trits.{fitTrit, fitTrits, zeroTrits};
+ghost use Rattle.linear_model.specs.Tables.{from, every};
+ghost use Rattle.linear_model.specs.Bits.{byteOf, fromBits};
+ghost use Rattle.linear_model.specs.Trits.{fitTrits, zeroTrits};
 ghost use Rattle.linear_model.specs.Internal.Tests.{Shows, inside, fitBefore, zeroAfter};
 use linear_words::bytes::byte_at;
 use linear_words::bytes::least;
+use linear_words::words::byte_of;
 use linear_words::words::word;
 
-// The places of byte `i` that are before `t`.
-fn places(t: usize, i: usize) -> u8
-    ensures { λ r. ⌜ r ≡ byteOf (inside t) i ⌝ }
+// The 64 places from byte `i` on that are before `t`.
+fn places(t: usize, i: usize) -> u64
+    ensures { λ r. ⌜ r ≡ fromBits 64 (from (8 * i) (inside t)) ⌝ }
 {
-    if i < t / 8 {
-        return 0xff;
-    }
     if t / 8 < i {
         return 0;
     }
-    let one: u8 = 1;
-    (one << (t % 8)) - 1
+    if 8 <= t / 8 - i {
+        return 0xffff_ffff_ffff_ffff;
+    }
+    let one: u64 = 1;
+    (one << (8 * (t / 8 - i) + t % 8)) - 1
+}
+
+// The places of byte `i` that are before `t`.
+fn byte_places(t: usize, i: usize) -> u8
+    ensures { λ r. ⌜ r ≡ byteOf (inside t) i ⌝ }
+{
+    byte_of(places(t, i), 0)
 }
 
 // The places before `t` that have both bits set, gathered in one byte. The vector's two planes are the halves of `v`.
-fn unfit(v: &[u8], t: usize) -> u8
+fn unfit_bytes(v: &[u8], m: usize, t: usize) -> u8
+    requires { ⌜ m ≡ length (now v) / 2 ⌝ }
     ensures { λ r. ⌜ eqb r 0 ≡ every (8 * (length (now (v .entry)) / 2)) (fitBefore (length (now (v .entry)) / 2) t (now (v .entry))) ⌝ }
 {
-    let m = v.len() / 2;
     let mut seen: u8 = 0;
     let mut i: usize = 0;
     while i < m {
-        seen |= byte_at(v, i) & byte_at(v, m + i) & places(t, i);
+        seen |= byte_at(v, i) & byte_at(v, m + i) & byte_places(t, i);
         i += 1;
     }
     seen
 }
 
-// Places 8i to 8i + 63 that have both bits set.
-fn both(v: &[u8], m: usize, i: usize) -> u64
+// Places 8i to 8i + 63 that are before `t` and have both bits set.
+fn unfit_word(v: &[u8], m: usize, t: usize, i: usize) -> u64
     requires { ⌜ m + i + 8 ≤ length (now v) ⌝ }
-    ensures { λ r. ⌜ Shows 64 (fitTrit m (now (v .entry))) (8 * i) r ⌝ }
+    ensures { λ r. ⌜ Shows 64 (fitBefore m t (now (v .entry))) (8 * i) r ⌝ }
 {
-    word(v, i) & word(v, m + i)
+    word(v, i) & word(v, m + i) & places(t, i)
 }
 
-// Whether all trits of a vector are fit.
-fn vector_fits(v: &[u8]) -> bool
-    requires { ⌜ length (now v) ≡ 64 ⌝ }
-    ensures { λ r. ⌜ r ≡ fitTrits 32 256 (now (v .entry)) ⌝ }
+// The places before `t` that have both bits set, gathered in one word: that of all whole words of a plane, and where bytes are left of
+// its last eight.
+fn unfit_words(v: &[u8], m: usize, t: usize) -> u64
+    requires { ⌜ (8 ≤ m) × (m ≡ length (now v) / 2) ⌝ }
+    ensures { λ r. ⌜ eqb r 0 ≡ every (8 * (length (now (v .entry)) / 2)) (fitBefore (length (now (v .entry)) / 2) t (now (v .entry))) ⌝ }
 {
-    both(v, 32, 0) | both(v, 32, 8) | both(v, 32, 16) | both(v, 32, 24) == 0
+    let mut seen: u64 = 0;
+    let mut i: usize = 0;
+    while i + 8 <= m {
+        seen |= unfit_word(v, m, t, i);
+        i += 8;
+    }
+    if i < m {
+        seen |= unfit_word(v, m, t, m - 8);
+    }
+    seen
 }
 
-// Whether the 81 trits of a code are fit: those of its first word, and of the word from byte 3 on those before place 81.
-fn code_fits(v: &[u8]) -> bool
-    requires { ⌜ length (now v) ≡ 22 ⌝ }
-    ensures { λ r. ⌜ r ≡ fitTrits 11 81 (now (v .entry)) ⌝ }
-{
-    both(v, 11, 0) | both(v, 11, 3) % 0x200_0000_0000_0000 == 0
-}
-
-// Whether no trit before place `t` has both bits set.
+// Whether no trit before place `t` has both bits set. The sizes in use are written out, so that each gets code of its own.
 pub fn trits_fit(v: &[u8], t: usize) -> bool
     ensures { λ r. ⌜ r ≡ fitTrits (length (now (v .entry)) / 2) (min t (8 * (length (now (v .entry)) / 2))) (now (v .entry)) ⌝ }
 {
-    if t == 256 && v.len() == 64 {
-        return vector_fits(v);
+    let m = v.len() / 2;
+    if m == 32 && t == 256 {
+        return unfit_words(v, 32, t) == 0;
     }
-    if t == 81 && v.len() == 22 {
-        return code_fits(v);
+    if m == 11 && t == 81 {
+        return unfit_words(v, 11, t) == 0;
     }
-    unfit(v, t) == 0
+    if m == 8 && t == 64 {
+        return unfit_words(v, 8, t) == 0;
+    }
+    if m == 21 && t == 162 {
+        return unfit_words(v, 21, t) == 0;
+    }
+    if m == 64 && t == 512 {
+        return unfit_words(v, 64, t) == 0;
+    }
+    if m == 3 && t == 21 {
+        return unfit_bytes(v, 3, t) == 0;
+    }
+    if 8 <= m {
+        return unfit_words(v, m, t) == 0;
+    }
+    unfit_bytes(v, m, t) == 0
 }
 
 // The places of byte `i` of each plane, from `t` on, that have a bit set.
@@ -83,7 +109,7 @@ fn spare_byte(v: &[u8], m: usize, t: usize, i: usize) -> u8
     ensures { λ r. ⌜ Shows 8 (zeroAfter m t (now (v .entry))) (8 * i) r ⌝ }
 {
     let some = byte_at(v, i) | byte_at(v, m + i);
-    some ^ (some & places(t, i))
+    some ^ (some & byte_places(t, i))
 }
 
 // The places from `t` on that have a bit set, gathered in one byte. Before byte t / 8 there are none.
@@ -104,9 +130,6 @@ fn spare(v: &[u8], t: usize) -> u8
 pub fn spare_bits_clear(v: &[u8], t: usize) -> bool
     ensures { λ r. ⌜ r ≡ zeroTrits (length (now (v .entry)) / 2) t (now (v .entry)) ⌝ }
 {
-    if t == 81 && v.len() == 22 {
-        return spare_byte(v, 11, 81, 10) == 0;
-    }
     spare(v, t) == 0
 }
 

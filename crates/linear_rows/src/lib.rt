@@ -1,2 +1,2 @@
-// Rows of trits times a vector, modulo 3.
+// Rows of trits times a vector, modulo 3, by words.
 pub mod rows;

@@ -1,13 +1,12 @@
 // Trits by words: 64 places of a vector at once, a word of each plane. The functions on bytes use them too, at eight places.
 ghost use mathlib.Core.Path.{_≡_};
-ghost use Prim.Native.Nat.{ℕ, _+_, _*_, _%_, _^_, _<_};
+ghost use Prim.Native.Nat.{ℕ, _+_, _*_, _%_, _^_, _<_, _≤_};
 ghost use lib.ListN.{length};
 ghost use Rattle.linear_model.specs.Tables.{sum};
 ghost use Rattle.linear_model.specs.Digits.{digitProduct};
-ghost use Rattle.linear_model.specs.Internal.Words.{setWord, setFour};
+ghost use Rattle.linear_model.specs.Internal.Words.{setWord};
 ghost use Rattle.linear_model.specs.Internal.Planes.{tritOf, Narrow};
 use crate::words;
-use crate::words::Four;
 
 // A word of each plane: 64 trits.
 pub struct Trits {
@@ -80,46 +79,11 @@ pub fn weight(t: Trits) -> u64
     words::folded(plus) + 2 * words::folded(minus)
 }
 
-// Stores the 64 bytes of a vector.
-pub fn put_vector(out: &mut [u8], s: Trits, t: Trits, u: Trits, v: Trits)
-    requires { ⌜ length (now out) ≡ 64 ⌝ }
-    ensures { λ _. ⌜
-        now (out .exit) ≡
-        setFour (setFour (now (out .entry)) 0 (s .low) (t .low) (u .low) (v .low)) 32 (s .high) (t .high) (u .high) (v .high)
-        ⌝ }
+// Stores a word of each plane, at bytes `i` and `m + i`.
+pub fn put_trits(out: &mut [u8], m: usize, i: usize, t: Trits)
+    requires { ⌜ (i + 8 ≤ m) × (m + m ≤ length (now out)) ⌝ }
+    ensures { λ _. ⌜ now (out .exit) ≡ setWord (setWord (now (out .entry)) i (t .low)) (m + i) (t .high) ⌝ }
 {
-    words::put_four(
-        out,
-        0,
-        Four {
-            a: s.low,
-            b: t.low,
-            c: u.low,
-            d: v.low,
-        },
-    );
-    words::put_four(
-        out,
-        32,
-        Four {
-            a: s.high,
-            b: t.high,
-            c: u.high,
-            d: v.high,
-        },
-    );
-}
-
-// Stores the 22 bytes of a code, whose two words of a plane start at bytes 0 and 3.
-pub fn put_code(out: &mut [u8], s: Trits, t: Trits)
-    requires { ⌜ length (now out) ≡ 22 ⌝ }
-    ensures { λ _. ⌜
-        now (out .exit) ≡
-        setWord (setWord (setWord (setWord (now (out .entry)) 0 (s .low)) 3 (t .low)) 11 (s .high)) 14 (t .high)
-        ⌝ }
-{
-    words::put_word(out, 0, s.low);
-    words::put_word(out, 3, t.low);
-    words::put_word(out, 11, s.high);
-    words::put_word(out, 14, t.high);
+    words::put_word(out, i, t.low);
+    words::put_word(out, m + i, t.high);
 }

@@ -2,23 +2,21 @@
 use mathlib.Core.Path.{_≡_, refl, sym, ap, subst, _∙_}
 use mathlib.Core.List.{List}
 use mathlib.Core.Bool.{Bool, true, false, cond}
-use Prim.Native.Nat.{ℕ, zero, suc, _+_, _-_, _*_, _%_, _^_, _<_, _≤_, min, zero-le}
-use native.Mathlib.Nat.{zero-add}
+use Prim.Native.Nat.{ℕ, zero, suc, _+_, _-_, _*_, _/_, _%_, _^_, _<_, _≤_, min, zero-le, suc-le-suc}
+use native.Mathlib.Nat.{zero-add, zero-lt-suc}
 use native.Mathlib.Decide.{decLt}
 use native.Mathlib.Omega.{arith}
 use lib.Bits.{bitXor, bitAnd, bitOr, or-zero-l, or-add-and, and-le-l, and-le-r}
 use lib.Dec.{T, ltb, eqb, eqb→eq, lit<}
-use lib.ListN.{getD}
-use lib.Pow.{ones-lt, pow-mono}
 use borrow.Author.Tests.{lt-ltb, le-ltb}
 use Rattle.linear_model.specs.Tables.{every, from}
-use Rattle.linear_model.specs.Bits.{bitAt, bit, fromBits, byteOf}
+use Rattle.linear_model.specs.Bits.{bitAt, fromBits, byteOf}
 use Rattle.linear_model.specs.Trits.{trit, fitTrit, fitTrits, zeroTrits}
+use Rattle.linear_model.specs.Internal.Planes.{tritOf}
 use Rattle.linear_model.specs.Internal.Tests.{Shows, inside, fitBefore, zeroAfter}
-use Rattle.linear_model.proofs.Tables.{bool-ext, every-at, every-of, same₂}
-use Rattle.linear_model.proofs.NumberBits.{from-bits-none, from-bits-of, bit-at-from-bits, bit-at-lt, bit-at-mod, bit-at-zero, and-bit-at, or-bit-at, xor-bit-at}
-use Rattle.linear_model.proofs.Strings.{byte-is}
-use Rattle.linear_model.proofs.Internal.Planes.{trit-at, trit-word}
+use Rattle.linear_model.proofs.Tables.{bool-ext, every-at, every-of}
+use Rattle.linear_model.proofs.NumberBits.{from-bits-ext, from-bits-none, from-bits-of, from-bits-zeros, bit-at-from-bits, bit-at-lt, bit-at-zero, and-bit-at, or-bit-at, xor-bit-at}
+use Rattle.linear_model.proofs.WordBits.{word-byte}
 
 -- ---- all places of some bytes
 
@@ -51,12 +49,6 @@ gather test p w i acc x hp hi h s e = bool-ext (eqb (bitOr acc x) 0) (every (p +
         let ea : acc ≡ 0 = eqb→eq acc 0 (subst T (sym e) (every-of i test (λ j l. every-at (p + w) test z j (omega arith)))) in
         let ex : x ≡ 0 = zero-bits-at w x h (λ k l. eqb→eq (bitAt x k) 0 (subst T (sym (s k l)) (every-at (p + w) test z (p + k) (omega arith)))) in
         to-zero (bitOr acc x) (omega (arith, or-add-and acc x))
-
--- the first w places
-pub gather-first : (test : ℕ → Bool) (w x : ℕ) → x < 2 ^ w → Shows w test 0 x → eqb x 0 ≡ every w test
-unfolding every
-gather-first test w x h s =
-    ap (λ (y : ℕ). eqb y 0) (sym (or-zero-l x)) ∙ gather test 0 w 0 0 x zero-le zero-le h s refl ∙ ap (λ (n : ℕ). every n test) (zero-add w)
 
 -- one byte more
 pub gather-byte : (test : ℕ → Bool) (i acc x : ℕ) → x < 256 → Shows 8 test (8 * i) x → eqb acc 0 ≡ every (8 * i) test → eqb (bitOr acc x) 0 ≡ every (8 * (i + 1)) test
@@ -100,20 +92,24 @@ pub all-zero : (m t : ℕ) (v : List ℕ) → every (8 * m) (zeroAfter m t v) �
 unfolding zeroTrits
 all-zero m t v = every-after t (8 * m) (λ j. eqb (trit m v j) 0)
 
--- ---- the places of one byte
+-- ---- the places of a byte or a word
 
--- the low r bits are the places before t
-pub places-are : (t i r : ℕ) → r ≡ min (t - 8 * i) 8 → 2 ^ r - 1 ≡ byteOf (inside t) i
-unfolding every
-places-are t i r e =
-    byte-is (inside t) i (2 ^ r - 1) (small r (omega arith))
-    (λ k l. same₂ 9 (λ r k. bitAt (2 ^ r - 1) k) (λ r k. cond (ltb k r) 1 0) tt r k (omega arith) (omega arith)
-    ∙ ap (λ (b : Bool). cond b 1 0) (pick k l (decLt k r)))
+-- r set bits
+ones-bits : (r : ℕ) (f : ℕ → ℕ) → ((i : ℕ) → i < r → f i ≡ 1) → fromBits r f + 1 ≡ 2 ^ r
+unfolding fromBits
+ones-bits zero f e = refl
+ones-bits (suc r) f e = omega (arith, e 0 (zero-lt-suc r), ones-bits r (λ i. f (suc i)) (λ i l. e (suc i) (suc-le-suc l)))
+
+-- the low r of w bits are the places before t
+pub places-are : (w t i r : ℕ) → r ≡ min (t - 8 * i) w → 2 ^ r - 1 ≡ fromBits w (from (8 * i) (inside t))
+places-are w t i r e =
+    let g : ℕ → ℕ = λ k. cond (ltb k r) 1 0 in
+    let s : r + (w - r) ≡ w = omega arith in
+    let low : fromBits w g ≡ fromBits r g = rw s at (from-bits-zeros r (w - r) g (λ k. rw (le-ltb (r + k) r (omega arith)))) in
+    omega (arith, low, ones-bits r g (λ k l. rw (lt-ltb k r l)))
+    ∙ from-bits-ext w g (from (8 * i) (inside t)) (λ k l. ap (λ (b : Bool). cond b 1 0) (pick k l (decLt k r)))
   where
-    small : (r : ℕ) → r < 9 → 2 ^ r - 1 < 256
-    small r h = omega (arith, ones-lt r, pow-mono {i = r} {j = 8} (omega arith))
-
-    pick : (k : ℕ) → k < 8 → Dec (k < r) → ltb k r ≡ ltb (8 * i + k) t
+    pick : (k : ℕ) → k < w → Dec (k < r) → ltb k r ≡ ltb (8 * i + k) t
     pick k l (yes h) = lt-ltb k r h ∙ sym (lt-ltb (8 * i + k) t (omega arith))
     pick k l (no h) = le-ltb k r (omega arith) ∙ sym (le-ltb (8 * i + k) t (omega arith))
 
@@ -121,9 +117,13 @@ inside-lt : (b : Bool) → cond b 1 0 < 2
 inside-lt true = lit< tt
 inside-lt false = lit< tt
 
-inside-bit-at : (t i z k : ℕ) → z ≡ byteOf (inside t) i → k < 8 → bitAt z k ≡ inside t (8 * i + k)
-inside-bit-at t i z k e h =
-    ap (λ (x : ℕ). bitAt x k) e ∙ bit-at-from-bits 8 (from (8 * i) (inside t)) (λ j. inside-lt (ltb (8 * i + j) t)) k h
+inside-bit-at : (w t i z k : ℕ) → z ≡ fromBits w (from (8 * i) (inside t)) → k < w → bitAt z k ≡ inside t (8 * i + k)
+inside-bit-at w t i z k e h =
+    ap (λ (x : ℕ). bitAt x k) e ∙ bit-at-from-bits w (from (8 * i) (inside t)) (λ j. inside-lt (ltb (8 * i + j) t)) k h
+
+-- the places of a byte, from those of a word
+pub places-byte : (t i x : ℕ) → x ≡ fromBits 64 (from (8 * i) (inside t)) → x / 2 ^ 0 % 256 ≡ byteOf (inside t) i
+places-byte t i x e = word-byte 0 x (from (8 * i) (inside t)) (lit< tt) (λ j. inside-lt (ltb (8 * i + j) t)) e ∙ from-bits-ext 8 _ _ (λ j _. ap (λ (k : ℕ). inside t (8 * i + k)) (zero-add j))
 
 -- a fact of two bits holds where it holds of all four choices
 two-bits : (P : ℕ → ℕ → Type 0) → P 0 0 → P 0 1 → P 1 0 → P 1 1 → (a b : ℕ) → a < 2 → b < 2 → P a b
@@ -139,9 +139,6 @@ fit-bits : (b : Bool) (x y : ℕ) → x < 2 → y < 2 → eqb (bitAnd (bitAnd x 
 fit-bits true = two-bits (λ x y. eqb (bitAnd (bitAnd x y) 1) 0 ≡ ltb (x + 2 * y) 3) refl refl refl refl
 fit-bits false = two-bits (λ x y. eqb (bitAnd (bitAnd x y) 0) 0 ≡ true) refl refl refl refl
 
-both-bits : (x y : ℕ) → x < 2 → y < 2 → eqb (bitAnd x y) 0 ≡ ltb (x + 2 * y) 3
-both-bits = two-bits (λ x y. eqb (bitAnd x y) 0 ≡ ltb (x + 2 * y) 3) refl refl refl refl
-
 zero-bits : (x y : ℕ) → x < 2 → y < 2 → eqb (bitOr x y) 0 ≡ eqb (x + 2 * y) 0
 zero-bits = two-bits (λ x y. eqb (bitOr x y) 0 ≡ eqb (x + 2 * y) 0) refl refl refl refl
 
@@ -149,29 +146,20 @@ spare-bits : (b : Bool) (x y : ℕ) → x < 2 → y < 2 → eqb (bitXor (bitOr x
 spare-bits true = two-bits (λ x y. eqb (bitXor (bitOr x y) (bitAnd (bitOr x y) 1)) 0 ≡ true) refl refl refl refl
 spare-bits false = two-bits (λ x y. eqb (bitXor (bitOr x y) (bitAnd (bitOr x y) 0)) 0 ≡ eqb (x + 2 * y) 0) refl refl refl refl
 
--- what byte i of each plane shows of the trits
-module _ (m : ℕ) (v : List ℕ) (i x y : ℕ) (ex : x ≡ getD v i 0) (ey : y ≡ getD v (m + i) 0) where
-  pub shows-fit : (t z : ℕ) → z ≡ byteOf (inside t) i → Shows 8 (fitBefore m t v) (8 * i) (bitAnd (bitAnd x y) z)
+-- what w bits of each plane show of the trits, from byte i on
+module _ (w m : ℕ) (v : List ℕ) (i x y : ℕ) (e : (k : ℕ) → k < w → trit m v (8 * i + k) ≡ tritOf x y k) where
+  pub shows-fit : (t z : ℕ) → z ≡ fromBits w (from (8 * i) (inside t)) → Shows w (fitBefore m t v) (8 * i) (bitAnd (bitAnd x y) z)
   shows-fit t z ez k h =
-      rw (trit-at m v i k h, ← ex, ← ey, and-bit-at, and-bit-at, inside-bit-at t i z k ez h) (fit-bits (ltb (8 * i + k) t) (bitAt x k) (bitAt y k) (bit-at-lt x k) (bit-at-lt y k))
+      rw (e k h, and-bit-at, and-bit-at, inside-bit-at w t i z k ez h) (fit-bits (ltb (8 * i + k) t) (bitAt x k) (bitAt y k) (bit-at-lt x k) (bit-at-lt y k))
 
-  pub shows-spare : (t z : ℕ) → z ≡ byteOf (inside t) i → Shows 8 (zeroAfter m t v) (8 * i) (bitXor (bitOr x y) (bitAnd (bitOr x y) z))
+  pub shows-spare : (t z : ℕ) → z ≡ fromBits w (from (8 * i) (inside t)) → Shows w (zeroAfter m t v) (8 * i) (bitXor (bitOr x y) (bitAnd (bitOr x y) z))
   shows-spare t z ez k h =
-      rw (trit-at m v i k h, ← ex, ← ey, xor-bit-at, and-bit-at, or-bit-at, inside-bit-at t i z k ez h)
+      rw (e k h, xor-bit-at, and-bit-at, or-bit-at, inside-bit-at w t i z k ez h)
       (spare-bits (ltb (8 * i + k) t) (bitAt x k) (bitAt y k) (bit-at-lt x k) (bit-at-lt y k))
 
-  pub shows-zero : Shows 8 (zeroAfter m 0 v) (8 * i) (bitOr x y)
+  pub shows-zero : Shows w (zeroAfter m 0 v) (8 * i) (bitOr x y)
   shows-zero k h =
-      rw (le-ltb (8 * i + k) 0 zero-le, trit-at m v i k h, ← ex, ← ey, or-bit-at) (zero-bits (bitAt x k) (bitAt y k) (bit-at-lt x k) (bit-at-lt y k))
-
--- what a word of each plane shows of the trits
-pub shows-both : (m : ℕ) (v : List ℕ) (i x y : ℕ) → x ≡ fromBits 64 (from (8 * i) (bit v)) → y ≡ fromBits 64 (from (8 * (m + i)) (bit v))
-    → Shows 64 (fitTrit m v) (8 * i) (bitAnd x y)
-shows-both m v i x y ex ey k h = rw (trit-word m v i x y ex ey k h, and-bit-at) (both-bits (bitAt x k) (bitAt y k) (bit-at-lt x k) (bit-at-lt y k))
-
--- the first places of those
-pub shows-less : (w n : ℕ) (test : ℕ → Bool) (j x : ℕ) → w ≤ n → Shows n test j x → Shows w test j (x % 2 ^ w)
-shows-less w n test j x h s k l = rw (bit-at-mod w x k l) (s k (omega arith))
+      rw (le-ltb (8 * i + k) 0 zero-le, e k h, or-bit-at) (zero-bits (bitAt x k) (bitAt y k) (bit-at-lt x k) (bit-at-lt y k))
 
 -- before byte t / 8 nothing is spare
 pub none-spare : (m t : ℕ) (v : List ℕ) (i : ℕ) → 8 * i ≤ t → eqb 0 0 ≡ every (8 * i) (zeroAfter m t v)

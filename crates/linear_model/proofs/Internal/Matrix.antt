@@ -3,7 +3,7 @@ use mathlib.Core.Path.{_≡_, sym, ap, _∙_}
 use mathlib.Core.List.{List}
 use mathlib.Core.Bool.{Bool, cond}
 use Prim.Native.Nat.{ℕ, suc, _+_, _-_, _*_, _/_, _%_, _<_, _≤_, min}
-use native.Mathlib.Nat.{mul-zero, zero-add, mod-mod}
+use native.Mathlib.Nat.{mul-zero, zero-add, mul-add, le-trans, le-of-eq, mul-le-mul-left, mul-div-le}
 use native.Mathlib.Decide.{decLt}
 use native.Mathlib.Omega.{arith}
 use lib.Dec.{ltb}
@@ -11,13 +11,12 @@ use lib.Pow.{pow-mono}
 use lib.ListN.{length, drop, drop-of-length-le}
 use lib.Seq.{drop-drop, drop-length}
 use borrow.Author.Tests.{lt-ltb, le-ltb}
-use Rattle.linear_model.specs.Tables.{below, from, sum}
+use Rattle.linear_model.specs.Tables.{below, from}
 use Rattle.linear_model.specs.Bits.{bit, fromBits}
 use Rattle.linear_model.specs.Trits.{low, high}
 use Rattle.linear_model.specs.Products.{rowProduct, rowDigit}
 use Rattle.linear_model.specs.Internal.Planes.{PlaneBits}
 use Rattle.linear_model.proofs.NumberBits.{from-bits-ext, from-bits-front, from-bits-lt, from-bits-zeros}
-use Rattle.linear_model.proofs.Sums.{add-congr, sum-add, sum-ext, sum-split}
 use Rattle.linear_model.proofs.Strings.{bit-drop}
 
 -- a cut past the end is a cut at the end
@@ -59,7 +58,7 @@ matrix-first m t rows v h = rw (lt-ltb 0 t h, mul-zero)
 pub matrix-none : (m t : ℕ) (rows v : List ℕ) → t ≤ 0 → 0 ≡ below t (rowDigit m rows v) 0
 matrix-none m t rows v h = rw (le-ltb 0 t h)
 
--- ---- rows of 64 bytes
+-- ---- rows by words
 
 -- a word of a row that starts at byte `at`
 pub word-drop : (s : List ℕ) (at j o x : ℕ) → o ≡ at + j → x ≡ fromBits 64 (from (8 * o) (bit s)) → x ≡ fromBits 64 (from (8 * j) (bit (drop at s)))
@@ -67,22 +66,15 @@ word-drop s at j o x e p =
     p ∙ from-bits-ext 64 (from (8 * o) (bit s)) (from (8 * j) (bit (drop at s)))
     (λ k _. ap (bit s) (omega arith) ∙ sym (bit-drop at s (8 * j + k)))
 
--- 256 terms, added in two words of 64 digits
-pub quarter-sums : (f p q : ℕ → ℕ) → ((k : ℕ) → k < 64 → p k ≡ (f (0 + k) + f (128 + k)) % 3) → ((k : ℕ) → k < 64 → q k ≡ (f (64 + k) + f (192 + k)) % 3)
-    → (sum 64 p + sum 64 q) % 3 ≡ sum 256 f % 3
-quarter-sums f p q ep eq =
-    let a = sum-add 3 64 (from 0 f) (from 128 f) p (λ k l. sym (ap (λ (z : ℕ). z % 3) (ep k l) ∙ mod-mod _ 3)) in
-    let b = sum-add 3 64 (from 64 f) (from 192 f) q (λ k l. sym (ap (λ (z : ℕ). z % 3) (eq k l) ∙ mod-mod _ 3)) in
-    let z : sum 64 (from 0 f) ≡ sum 64 f = sum-ext 64 (from 0 f) f (λ k _. ap f (zero-add k)) in
-    let whole : sum 256 f ≡ sum 64 f + sum 64 (from 128 f) + (sum 64 (from 64 f) + sum 64 (from 192 f)) =
-    omega (arith, sum-split 192 64 f, sum-split 128 64 f, sum-split 64 64 f)
-    in
-    add-congr 3 (sum 64 p) (sum 64 q) (sum 64 f + sum 64 (from 128 f)) (sum 64 (from 64 f) + sum 64 (from 192 f)) (sym (rw z at a)) (sym b)
-    ∙ ap (λ (z : ℕ). z % 3) (sym whole)
-
 -- row q of those from byte `at` on
-pub row-at : (t at : ℕ) (rows v : List ℕ) (q : ℕ) → q < t → rowProduct 32 (drop (at + 64 * q) rows) v ≡ below t (rowDigit 32 (drop at rows) v) q
-row-at t at rows v q h = rw (lt-ltb q t h, drop-drop)
+pub row-at : (m t at : ℕ) (rows v : List ℕ) (q : ℕ) → q < t → rowProduct m (drop (at + 2 * m * q) rows) v ≡ below t (rowDigit m (drop at rows) v) q
+row-at m t at rows v q h = rw (lt-ltb q t h, drop-drop)
+
+-- one row of s bytes back
+pub row-back : (s q : ℕ) → 0 < q → s * q ≡ s * (q - 1) + s
+row-back s q h =
+    let e : q ≡ suc (q - 1) = omega arith in
+    ap (λ (z : ℕ). s * z) e ∙ omega arith
 
 -- the bits of the rows from q on, last first
 module _ (t : ℕ) (g : ℕ → ℕ) where
@@ -117,3 +109,36 @@ below-min t f x y r =
         go : Dec (k < t) → ltb (0 + k) (min t 8) ≡ ltb (0 + k) t
         go (yes h) = lt-ltb (0 + k) (min t 8) (omega arith) ∙ sym (lt-ltb (0 + k) t (omega arith))
         go (no h) = le-ltb (0 + k) (min t 8) (omega arith) ∙ sym (le-ltb (0 + k) t (omega arith))
+
+-- ---- eight rows at a time: of t rows with s bytes, those before row 8p are behind byte `at`, and c more are taken
+module _ (s t p at c : ℕ) (here : at ≡ s * min (8 * p) t) (some : c ≡ min (t - 8 * p) 8) where
+  pub rows-next : at + s * c ≡ s * min (8 * (p + 1)) t
+  rows-next =
+      let e : min (8 * p) t + c ≡ min (8 * (p + 1)) t = omega arith in
+      rw (here, ← mul-add s (min (8 * p) t) c, e)
+
+  pub rows-there : (n : ℕ) → s * t ≤ n → at + s * c ≤ n
+  rows-there n h = le-trans (le-of-eq rows-next) (le-trans (mul-le-mul-left s (omega arith)) h)
+
+pub rows-start : (s t : ℕ) → 0 ≡ s * min (8 * 0) t
+rows-start s t =
+    let e : min (8 * 0) t ≡ 0 = omega arith in
+    rw (e, mul-zero)
+
+-- the rows from row q on
+pub rows-from : (m t : ℕ) (rows v : List ℕ) (q at left k : ℕ) → 2 * m * t ≤ length rows → at ≡ 2 * m * min q t → left ≡ t - q
+    → below left (rowDigit m (drop at rows) v) k ≡ below t (rowDigit m rows v) (q + k)
+rows-from m t rows v q at left k h ea el = go (decLt q t)
+  where
+    go : Dec (q < t) → below left (rowDigit m (drop at rows) v) k ≡ below t (rowDigit m rows v) (q + k)
+    go (yes l) =
+        let e : min q t ≡ q = omega arith in
+        let i : at ≡ 2 * m * q = rw e at ea in
+        let f : at ≤ length rows = le-trans (le-of-eq i) (le-trans (mul-le-mul-left (2 * m) (omega arith)) h) in
+        let w : at ≡ min (2 * m * q) (length rows) = omega arith in
+        row-is m t rows v q at left k w el
+    go (no l) = rw (le-ltb k left (omega arith), le-ltb (q + k) t (omega arith))
+
+-- as many rows as a matrix of n bytes has are there
+pub rows-fit : (s t n : ℕ) → t ≤ n / s → s * t ≤ n
+rows-fit s t n h = le-trans (mul-le-mul-left s h) (mul-div-le n s)

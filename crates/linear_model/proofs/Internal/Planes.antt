@@ -17,7 +17,7 @@ use Rattle.linear_model.specs.Products.{tritTerm}
 use Rattle.linear_model.specs.Internal.Planes.{tritOf, PlaneBits, Narrow, sumLow, sumHigh, tritProduct, nonzero, twos}
 use Rattle.linear_model.proofs.Tables.{same₂, same₄}
 use Rattle.linear_model.proofs.NumberBits.{from-bits-ext, from-bits-of, bit-at-lt, bit-at-mod, bit-at-zero, xor-bit-at, and-bit-at, or-bit-at}
-use Rattle.linear_model.proofs.Sums.{sum-congr, sum-split}
+use Rattle.linear_model.proofs.Sums.{add-congr, sum-congr, sum-split}
 use Rattle.linear_model.proofs.Digits.{remainder-product}
 use Rattle.linear_model.proofs.Strings.{bit-at}
 use Rattle.linear_model.proofs.WordBits.{word-bit-at}
@@ -127,7 +127,7 @@ module _ (m : ℕ) (row v : List ℕ) (i x u y w : ℕ) where
       sum-congr 3 n (tritProduct x u y w) (from (8 * i) (tritTerm m row v)) (λ k l. ap (λ (z : ℕ). z % 3) (product-term k (p k l) (q k l)) ∙ mod-mod _ 3)
 
 -- the terms of n bytes more of a sum modulo 3
-pub mod-more : (n : ℕ) (f : ℕ → ℕ) (i x y : ℕ) → x ≡ sum (8 * i) f % 3 → y ≡ sum (8 * n) (from (8 * i) f) % 3 → (x + y) % 3 ≡ sum (8 * (i + n)) f % 3
+pub mod-more : (n : ℕ) (f : ℕ → ℕ) (i x y : ℕ) → x % 3 ≡ sum (8 * i) f % 3 → y % 3 ≡ sum (8 * n) (from (8 * i) f) % 3 → (x + y) % 3 ≡ sum (8 * (i + n)) f % 3
 mod-more n f i x y p q =
     let e : 8 * (i + n) ≡ 8 * i + 8 * n = omega arith in
-    rw (p, q, ← add-mod, e, sum-split)
+    add-congr 3 x y (sum (8 * i) f) (sum (8 * n) (from (8 * i) f)) p q ∙ rw (e, sum-split)

@@ -9,6 +9,7 @@ use lib.ListN.{length}
 use Rattle.linear_model.specs.Tables.{every}
 use Rattle.linear_model.specs.Internal.Tests.{zeroAfter}
 use Rattle.linear_model.proofs.Tables.{every-fails}
+use Rattle.linear_model.proofs.Internal.Planes.{trit-byte}
 use Rattle.linear_model.proofs.Internal.Gathers.{gather-zero, shows-zero, all-zero}
 use Rattle.linear_fit.proofs.fit.row_is_zero.Statement.{statement}
 use Rattle.linear_fit.proofs.fit.row_is_zero.Tie as tie
@@ -27,7 +28,7 @@ returns c =
     let m = length (a .row .now) / 2 in
     every-fails (8 * (l .loop .i + 1)) (8 * m) (zeroAfter m 0 (a .row .now)) (omega arith)
     (sym (gather-zero _ (l .loop .i) _ (or-lt 8 _ _ (b .before .byte-at .ok) (b .byte-at2 .ok))
-    (shows-zero m (a .row .now) (l .loop .i) _ _ (b .before .byte-at .ensures) (b .byte-at2 .ensures)) (l .loop .inv .1))
+    (shows-zero 8 m (a .row .now) (l .loop .i) _ _ (trit-byte m (a .row .now) (l .loop .i) _ _ (b .before .byte-at .ensures) (b .byte-at2 .ensures))) (l .loop .inv .1))
     ∙ ne-eqb _ 0 (c .if1 .taken))
     ∙ all-zero m 0 (a .row .now)
 
@@ -40,7 +41,7 @@ loop-again c =
       omega arith,
       sym (eq-eqb _ 0 (c .if1 .left))
           ∙ gather-zero (zeroAfter m 0 (a .row .now)) (l .loop .i) _ (or-lt 8 _ _ (b .before .byte-at .ok) (b .byte-at2 .ok))
-          (shows-zero m (a .row .now) (l .loop .i) _ _ (b .before .byte-at .ensures) (b .byte-at2 .ensures)) (l .loop .inv .1),
+          (shows-zero 8 m (a .row .now) (l .loop .i) _ _ (trit-byte m (a .row .now) (l .loop .i) _ _ (b .before .byte-at .ensures) (b .byte-at2 .ensures))) (l .loop .inv .1),
     )
 
 returns-2 : tie.Need-returns-2 Inv-loop μ-loop

@@ -14,10 +14,10 @@ returns : tie.Need-returns
 returns c =
     let x = c .before .before .before in
     let a = x .before .before .before .args in
-    plane-bits-of 64 (innerTrit 32 (a .side) (a .w .now) (a .r .now)) (a .i) _ _ (search needs) (search needs)
+    plane-bits-of 64 (innerTrit (a .m) (a .side) (a .w .now) (a .r .now)) (a .i) _ _ (search needs) (search needs)
     (λ k l. c .share .ensures k
     ∙ sym (ap₂ (λ (b t : ℕ). (t + b * t + cond (eqb (a .side) 0) b 0) % 3) (sym (word-bit-at (a .w .now) _ _ (x .word .ensures) k l))
-    (trit-word 32 (a .r .now) (a .i) _ _ (c .before .before .word2 .ensures) (c .before .word3 .ensures) k l)))
+    (trit-word (a .m) (a .r .now) (a .i) _ _ (c .before .before .word2 .ensures) (c .before .word3 .ensures) k l)))
 
 pub share-word-spec : {M : Type 1} → statement M
 share-word-spec =

@@ -12,10 +12,10 @@ returns : tie.Need-returns
 returns c =
     let x = c .before .before .before in
     let a = x .before .before .before .args in
-    plane-bits-of 64 (differenceTrit 32 (a .w .now) (a .r .now)) (a .i) _ _ (search needs) (search needs)
+    plane-bits-of 64 (differenceTrit (a .m) (a .w .now) (a .r .now)) (a .i) _ _ (search needs) (search needs)
     (λ k l. c .difference .ensures k
     ∙ sym (ap₂ (λ (b t : ℕ). (b + 2 * t) % 3) (sym (word-bit-at (a .w .now) _ _ (x .word .ensures) k l))
-    (trit-word 32 (a .r .now) (a .i) _ _ (c .before .word3 .ensures) (c .before .before .word2 .ensures) k l)))
+    (trit-word (a .m) (a .r .now) (a .i) _ _ (c .before .word3 .ensures) (c .before .before .word2 .ensures) k l)))
 
 pub subtract-word-spec : {M : Type 1} → statement M
 subtract-word-spec =
