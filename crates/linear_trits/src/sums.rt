@@ -57,7 +57,7 @@ fn add_word(a: &[u8], b: &[u8], m: usize, i: usize) -> Trits
     bitwise::summed(word(a, i), word(a, m + i), word(b, i), word(b, m + i))
 }
 
-// The sum of two trit vectors modulo 3, by words. Two words are read before one is stored: so the compiler takes them at once.
+// The sum of two trit vectors modulo 3, by words.
 fn add_words(a: &[u8], b: &[u8], m: usize, out: &mut [u8])
     requires { ⌜ (8 ≤ m) × (m ≡ length (now out) / 2) × (m + m ≤ length (now a)) × (m + m ≤ length (now b)) ⌝ }
     ensures { λ _. ⌜
@@ -69,12 +69,8 @@ fn add_words(a: &[u8], b: &[u8], m: usize, out: &mut [u8])
     let mut i: usize = 0;
     while i < m {
         let p = least(i, m - 8);
-        let q = least(i + 8, m - 8);
-        let first = add_word(a, b, m, p);
-        let second = add_word(a, b, m, q);
-        put_trits(out, m, p, first);
-        put_trits(out, m, q, second);
-        i += 16;
+        put_trits(out, m, p, add_word(a, b, m, p));
+        i += 8;
     }
 }
 
@@ -116,7 +112,7 @@ fn subtract_word(w: &[u8], r: &[u8], m: usize, i: usize) -> Trits
     bitwise::difference(x, word(r, i), high)
 }
 
-// The bits of `w` less the trits of `r`, modulo 3, by words.
+// The bits of `w` less the trits of `r`, modulo 3, by words. Two words are read before one is stored: so the compiler takes them at once.
 fn subtract_words(w: &[u8], r: &[u8], m: usize, out: &mut [u8])
     requires { ⌜ (8 ≤ m) × (m ≡ length (now out) / 2) × (m ≤ length (now w)) × (m + m ≤ length (now r)) ⌝ }
     ensures { λ _. ⌜
@@ -173,7 +169,7 @@ fn share_word(side: u8, w: &[u8], r: &[u8], m: usize, i: usize) -> Trits
     bitwise::share(side, word(w, i), word(r, i), word(r, m + i))
 }
 
-// The inner share of a unit, by words.
+// The inner share of a unit, by words, two at once.
 fn share_words(side: u8, w: &[u8], r: &[u8], m: usize, out: &mut [u8])
     requires { ⌜ (8 ≤ m) × (m ≡ length (now out) / 2) × (m ≤ length (now w)) × (m + m ≤ length (now r)) ⌝ }
     ensures { λ _. ⌜

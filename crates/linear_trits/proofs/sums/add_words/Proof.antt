@@ -21,15 +21,12 @@ loop-holds c =
 
 loop-again : tie.Need-loop-again Inv-loop μ-loop
 loop-again c =
-    let one = c .before .before .before .before .before .before in
-    let w = one .before .before in
-    let l = w .before .before .before .before .before in
-    let p = w .before .before .before .least .result in
-    let q = w .before .before .least2 .result in
-    let h = planes-word p (λ j. omega arith) (l .loop .inv) (omega arith) (omega arith) (omega arith) (w .before .add-word .ensures) in
-    let e : q + 8 ≡ min (l .loop .i + 16) (l .before .before .before .before .args .m) = omega arith in
-    rw (c .before .before .put-trits2 .ensures, one .put-trits .ensures, ← e)
-    (planes-word q (λ j. omega arith) h (omega arith) (omega arith) (omega arith) (w .add-word2 .ensures))
+    let w = c .before .before .before in
+    let l = w .before .before .before .before in
+    let p = w .before .before .least .result in
+    let e : p + 8 ≡ min (l .loop .i + 8) (l .before .before .before .before .args .m) = omega arith in
+    rw (c .before .before .put-trits .ensures, ← e)
+    (planes-word p (λ j. omega arith) (l .loop .inv) (omega arith) (omega arith) (omega arith) (w .add-word .ensures))
 
 returns : tie.Need-returns Inv-loop μ-loop
 unfolding addTrits
@@ -47,11 +44,6 @@ add-words-spec =
     loop-holds
     (λ c. omega arith)
     (λ c κs. omega arith)
-    (λ c. omega arith)
-    (λ c. omega arith)
-    (λ c κs. omega arith)
-    (λ c κs. (omega arith, omega arith))
-    (λ c κs. (omega arith, omega arith))
     (λ c κs. (omega arith, omega arith))
     (λ c κs. (omega arith, omega arith))
     (λ c. omega arith)
