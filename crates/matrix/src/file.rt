@@ -5,71 +5,127 @@ ghost use mathlib.Core.List.{_++_};
 ghost use Prim.Native.Nat.{_≤_};
 ghost use lib.ListN.{length, take, drop};
 ghost use Rattle.numbers.specs.Number.{first};
-ghost use Rattle.matrix_model.specs.File.{fileBytes, rowsBytes, rows, fileOf, faults, checkNumber, readNumber, writeNumber, readOutput, writeOutput, Survives, Restores};
+ghost use Rattle.matrix_model.specs.File.{Fits, fileSize, rowsSize, rowsOf, fileFrom, faultsOf, checkNumberOf, readNumberOf, writeNumberOf, readOutputOf, writeOutputOf, SurvivesOf, RestoresOf, fileBytes, rowsBytes, checkNumber, readNumber, writeNumber, readOutput, writeOutput, Survives, Restores};
+ghost use Rattle.matrix_blocks.specs.Layouts.{layoutOf};
+use crate::document::matrix_b;
 use linear_words::bytes::put;
 use matrix_blocks::blocks::block_of;
 use matrix_blocks::blocks::rows_of_block;
+use matrix_blocks::counts::block_count;
+use matrix_blocks::counts::bytes_before;
+use matrix_blocks::counts::file_size;
+use matrix_blocks::counts::rows_size;
 use matrix_blocks::faults::bad_check;
 use matrix_blocks::faults::bad_layout;
+use matrix_blocks::layouts::Layout;
 use matrix_model::sizes::BLOCK_BYTES;
-use matrix_model::sizes::BLOCK_COUNT;
-use matrix_model::sizes::BLOCK_ROWS_BYTES;
-use matrix_model::sizes::FILE_BYTES;
-use matrix_model::sizes::ROWS_BYTES;
 use matrix_rows::rows::all_rows_number;
 use numbers::table::BLOCK_CHECK;
 use numbers::table::BLOCK_LAYOUT;
 use numbers::table::DONE;
 use numbers::table::WRONG_LENGTH;
 
+// ---- for any layout that fits
+
 // The number of a file of the right length: a check over all blocks before any layout, and so on.
-fn file_number(file: &[u8]) -> u32
-    requires { ⌜ length (now file) ≡ fileBytes ⌝ }
-    ensures { λ r. ⌜ r ≡ first (faults (now (file .entry))) ⌝ }
+fn file_number(layout: Layout, file: &[u8]) -> u32
+    requires { ⌜ Fits (layoutOf layout) × (length (now file) ≡ fileSize (layoutOf layout)) ⌝ }
+    ensures { λ r. ⌜ r ≡ first (faultsOf (layoutOf layout) (now (file .entry))) ⌝ }
 {
-    if bad_check(file) {
+    if bad_check(layout, file) {
         return BLOCK_CHECK;
     }
-    if bad_layout(file) {
+    if bad_layout(layout, file) {
         return BLOCK_LAYOUT;
     }
-    all_rows_number(file, true)
+    all_rows_number(layout, file, true)
 }
+
+// The number of any bytes.
+fn check_of(layout: Layout, file: &[u8]) -> u32
+    requires { ⌜ Fits (layoutOf layout) ⌝ }
+    ensures { λ r. ⌜ r ≡ checkNumberOf (layoutOf layout) (now (file .entry)) ⌝ }
+{
+    if file.len() != file_size(layout) {
+        return WRONG_LENGTH;
+    }
+    file_number(layout, file)
+}
+
+// Writes the rows of a file.
+fn write_rows(layout: Layout, file: &[u8], out: &mut [u8])
+    requires { ⌜ Fits (layoutOf layout) × (length (now file) ≡ fileSize (layoutOf layout)) × (rowsSize (layoutOf layout) ≤ length (now out)) ⌝ }
+    ensures { λ _. ⌜ now (out .exit) ≡ rowsOf (layoutOf layout) (now (file .entry)) ++ drop (rowsSize (layoutOf layout)) (now (out .entry)) ⌝ }
+{
+    let n = block_count(layout);
+    let mut b: usize = 0;
+    while b < n {
+        put(rows_of_block(layout, file, b), out, bytes_before(layout, b));
+        b += 1;
+    }
+}
+
+// Writes the file of a set of rows.
+fn write_blocks(layout: Layout, rows: &[u8], out: &mut [u8])
+    requires { ⌜ Fits (layoutOf layout) × (length (now rows) ≡ rowsSize (layoutOf layout)) × (fileSize (layoutOf layout) ≤ length (now out)) ⌝ }
+    ensures { λ _. ⌜ now (out .exit) ≡ fileFrom (layoutOf layout) (now (rows .entry)) ++ drop (fileSize (layoutOf layout)) (now (out .entry)) ⌝ }
+{
+    let n = block_count(layout);
+    let mut b: usize = 0;
+    while b < n {
+        let block = block_of(layout, rows, b);
+        put(&block, out, BLOCK_BYTES * b);
+        b += 1;
+    }
+}
+
+// The reader.
+fn read_of(layout: Layout, file: &[u8], out: &mut [u8]) -> u32
+    requires { ⌜ Fits (layoutOf layout) ⌝ }
+    ensures result { λ r. ⌜ r ≡ readNumberOf (layoutOf layout) (now (file .entry)) (length (now (out .entry))) ⌝ }
+    ensures output { λ _. ⌜ now (out .exit) ≡ readOutputOf (layoutOf layout) (now (file .entry)) (now (out .entry)) ⌝ }
+    ensures round_trip { λ r. ⌜ (r ≡ 0 → RestoresOf (layoutOf layout) (take (rowsSize (layoutOf layout)) (now (out .exit))) (now (file .entry))) ⌝ }
+{
+    if out.len() < rows_size(layout) {
+        return WRONG_LENGTH;
+    }
+    let number = check_of(layout, file);
+    if number != DONE {
+        return number;
+    }
+    write_rows(layout, file, out);
+    DONE
+}
+
+// The writer.
+fn write_of(layout: Layout, rows: &[u8], out: &mut [u8]) -> u32
+    requires { ⌜ Fits (layoutOf layout) ⌝ }
+    ensures result { λ r. ⌜ r ≡ writeNumberOf (layoutOf layout) (now (rows .entry)) (length (now (out .entry))) ⌝ }
+    ensures output { λ _. ⌜ now (out .exit) ≡ writeOutputOf (layoutOf layout) (now (rows .entry)) (now (out .entry)) ⌝ }
+    ensures round_trip { λ r. ⌜ (r ≡ 0 → SurvivesOf (layoutOf layout) (now (rows .entry)) (take (fileSize (layoutOf layout)) (now (out .exit)))) ⌝ }
+{
+    if rows.len() != rows_size(layout) {
+        return WRONG_LENGTH;
+    }
+    if out.len() < file_size(layout) {
+        return WRONG_LENGTH;
+    }
+    let number = all_rows_number(layout, rows, false);
+    if number != DONE {
+        return number;
+    }
+    write_blocks(layout, rows, out);
+    DONE
+}
+
+// ---- for document 01's
 
 // The matrix check: the number of a file, and no more.
 #[no_mangle]
 pub extern "C" fn matrix_check(file: &[u8]) -> u32
     ensures { λ r. ⌜ r ≡ checkNumber (now (file .entry)) ⌝ }
 {
-    if file.len() != FILE_BYTES {
-        return WRONG_LENGTH;
-    }
-    file_number(file)
-}
-
-// Writes the rows of a file.
-fn write_rows(file: &[u8], out: &mut [u8])
-    requires { ⌜ (length (now file) ≡ fileBytes) × (rowsBytes ≤ length (now out)) ⌝ }
-    ensures { λ _. ⌜ now (out .exit) ≡ rows (now (file .entry)) ++ drop rowsBytes (now (out .entry)) ⌝ }
-{
-    let mut b: usize = 0;
-    while b < BLOCK_COUNT {
-        put(rows_of_block(file, b), out, BLOCK_ROWS_BYTES * b);
-        b += 1;
-    }
-}
-
-// Writes the file of a set of rows.
-fn write_blocks(rows: &[u8], out: &mut [u8])
-    requires { ⌜ (length (now rows) ≡ rowsBytes) × (fileBytes ≤ length (now out)) ⌝ }
-    ensures { λ _. ⌜ now (out .exit) ≡ fileOf (now (rows .entry)) ++ drop fileBytes (now (out .entry)) ⌝ }
-{
-    let mut b: usize = 0;
-    while b < BLOCK_COUNT {
-        let block = block_of(rows, b);
-        put(&block, out, BLOCK_BYTES * b);
-        b += 1;
-    }
+    check_of(matrix_b(), file)
 }
 
 // The reader: writes the 5,184 bytes of the rows of a file.
@@ -78,15 +134,7 @@ pub fn matrix_read(file: &[u8], out: &mut [u8]) -> u32
     ensures output { λ _. ⌜ now (out .exit) ≡ readOutput (now (file .entry)) (now (out .entry)) ⌝ }
     ensures round_trip { λ r. ⌜ (r ≡ 0 → Restores (take rowsBytes (now (out .exit))) (now (file .entry))) ⌝ }
 {
-    if out.len() < ROWS_BYTES {
-        return WRONG_LENGTH;
-    }
-    let number = matrix_check(file);
-    if number != DONE {
-        return number;
-    }
-    write_rows(file, out);
-    DONE
+    read_of(matrix_b(), file, out)
 }
 
 // The writer: writes the 6,144 bytes of the file of 81 rows.
@@ -95,16 +143,5 @@ pub fn matrix_write(rows: &[u8], out: &mut [u8]) -> u32
     ensures output { λ _. ⌜ now (out .exit) ≡ writeOutput (now (rows .entry)) (now (out .entry)) ⌝ }
     ensures round_trip { λ r. ⌜ (r ≡ 0 → Survives (now (rows .entry)) (take fileBytes (now (out .exit)))) ⌝ }
 {
-    if rows.len() != ROWS_BYTES {
-        return WRONG_LENGTH;
-    }
-    if out.len() < FILE_BYTES {
-        return WRONG_LENGTH;
-    }
-    let number = all_rows_number(rows, false);
-    if number != DONE {
-        return number;
-    }
-    write_blocks(rows, out);
-    DONE
+    write_of(matrix_b(), rows, out)
 }

@@ -2,15 +2,17 @@
 ghost use mathlib.Core.Path.{_≡_};
 ghost use Prim.Native.Nat.{_<_};
 ghost use lib.ListN.{length};
-ghost use Rattle.matrix_model.specs.File.{matrixB, blockCount, fileBytes, block, badCheck, badLayout};
+ghost use Rattle.matrix_model.specs.File.{Fits, blockCount, fileSize, block, badCheckOf, badLayoutOf};
+ghost use Rattle.matrix_blocks.specs.Layouts.{layoutOf};
 use crate::blocks::laid_out;
+use crate::counts::block_count;
+use crate::layouts::Layout;
 use matrix_model::sizes::BLOCK_BYTES;
-use matrix_model::sizes::BLOCK_COUNT;
 use matrix_sums::sums::check_holds;
 
 // Block `b` of a file.
-fn block_at(file: &[u8], b: usize) -> &[u8]
-    requires { ⌜ (length (now file) ≡ fileBytes) × (b < blockCount matrixB) ⌝ }
+fn block_at(layout: Layout, file: &[u8], b: usize) -> &[u8]
+    requires { ⌜ Fits (layoutOf layout) × (length (now file) ≡ fileSize (layoutOf layout)) × (b < blockCount (layoutOf layout)) ⌝ }
     ensures { λ r. ⌜ now r ≡ block (now (file .entry)) b ⌝ }
 {
     let at = BLOCK_BYTES * b;
@@ -18,13 +20,14 @@ fn block_at(file: &[u8], b: usize) -> &[u8]
 }
 
 // Whether a block's check differs.
-pub fn bad_check(file: &[u8]) -> bool
-    requires { ⌜ length (now file) ≡ fileBytes ⌝ }
-    ensures { λ r. ⌜ r ≡ badCheck (now (file .entry)) ⌝ }
+pub fn bad_check(layout: Layout, file: &[u8]) -> bool
+    requires { ⌜ Fits (layoutOf layout) × (length (now file) ≡ fileSize (layoutOf layout)) ⌝ }
+    ensures { λ r. ⌜ r ≡ badCheckOf (layoutOf layout) (now (file .entry)) ⌝ }
 {
+    let n = block_count(layout);
     let mut b: usize = 0;
-    while b < BLOCK_COUNT {
-        if check_holds(block_at(file, b)) {
+    while b < n {
+        if check_holds(block_at(layout, file, b)) {
             b += 1;
         } else {
             return true;
@@ -34,13 +37,14 @@ pub fn bad_check(file: &[u8]) -> bool
 }
 
 // Whether a block differs from the layout.
-pub fn bad_layout(file: &[u8]) -> bool
-    requires { ⌜ length (now file) ≡ fileBytes ⌝ }
-    ensures { λ r. ⌜ r ≡ badLayout (now (file .entry)) ⌝ }
+pub fn bad_layout(layout: Layout, file: &[u8]) -> bool
+    requires { ⌜ Fits (layoutOf layout) × (length (now file) ≡ fileSize (layoutOf layout)) ⌝ }
+    ensures { λ r. ⌜ r ≡ badLayoutOf (layoutOf layout) (now (file .entry)) ⌝ }
 {
+    let n = block_count(layout);
     let mut b: usize = 0;
-    while b < BLOCK_COUNT {
-        if laid_out(block_at(file, b), b) {
+    while b < n {
+        if laid_out(layout, block_at(layout, file, b), b) {
             b += 1;
         } else {
             return true;

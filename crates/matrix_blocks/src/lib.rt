@@ -1,3 +1,5 @@
-// Blocks of the matrix file.
+// Blocks of a matrix file of any layout.
 pub mod blocks;
+pub mod counts;
 pub mod faults;
+pub mod layouts;

@@ -1,31 +1,22 @@
-// The rows of a matrix file times a vector, multiplied where they stand, so that no copy of the rows is made. A block has seven rows:
-// its digits are seven bits of each plane of the code, and those of eight blocks are seven bytes.
+// The rows of a matrix file times a vector, multiplied where they stand, so that no copy of the rows is made: up to eight rows of a
+// block at a time, whose digits are gathered until they are a byte of each plane of the code.
 ghost use mathlib.Core.Path.{_≡_};
-ghost use Prim.Native.Nat.{_+_, _*_, _<_, _≤_};
-ghost use lib.ListN.{length};
+ghost use mathlib.Core.List.{_++_};
+ghost use Prim.Native.Nat.{_+_, _*_, _/_, _%_, _<_, _≤_, min};
+ghost use lib.ListN.{length, drop};
 ghost use Rattle.linear_model.specs.Products.{matrixProduct};
-ghost use Rattle.matrix_model.specs.File.{matrixB, blockCount, fileBytes, rows};
-ghost use Rattle.matrix_model.specs.Product.{codePlane, rowPlane};
-ghost use Rattle.matrix_model.specs.Internal.Digits.{codeDigit, Span, planeByte};
+ghost use Rattle.matrix_model.specs.Block.{rowsIn};
+ghost use Rattle.matrix_model.specs.File.{Fits, blockCount, fileSize, rowPlaneOf, rowsOf};
+ghost use Rattle.matrix_model.specs.Product.{codePlaneOf};
+ghost use Rattle.matrix_model.specs.Internal.Digits.{codeDigit, Span, Gathering};
+ghost use Rattle.matrix_blocks.specs.Layouts.{layoutOf};
 use linear::products::matrix_product;
+use linear_words::bytes::least;
 use linear_words::bytes::wide;
-use linear_words::words::byte_of;
-use matrix_blocks::blocks::rows_in;
-use matrix_blocks::blocks::rows_of_block;
-use matrix_model::sizes::BLOCK_COUNT;
-use matrix_model::sizes::BLOCK_ROWS;
-use matrix_model::sizes::CODE_BYTES;
-use matrix_model::sizes::PLANE_BYTES;
-
-// The blocks whose digits are whole bytes of a plane, those bytes, and the blocks after them.
-const FIRST_BLOCKS: usize = 8;
-
-const FIRST_BYTES: usize = FIRST_BLOCKS * BLOCK_ROWS / 8;
-
-const OTHER_BLOCKS: usize = BLOCK_COUNT - FIRST_BLOCKS;
-
-// Times this, a number has room for the digits of a block.
-const BLOCK_ROOM: u64 = 0x80;
+use matrix_blocks::counts::rows_in;
+use matrix_blocks::layouts::Layout;
+use matrix_model::sizes::BLOCK_BYTES;
+use matrix_model::sizes::HEAD_BYTES;
 
 // Digits of a code, the first one lowest: their low bits and their high bits.
 struct Digits {
@@ -33,60 +24,124 @@ struct Digits {
     high: u64,
 }
 
-// The digits of the rows in block `b`: seven, since those past the last row count as 0.
-fn block_digits(file: &[u8], v: &[u8], b: usize) -> Digits
-    requires { ⌜ (length (now file) ≡ fileBytes) × (length (now v) ≡ matrixB .rowBytes) × (b < blockCount matrixB) ⌝ }
-    ensures { λ r. ⌜ Span (matrixB .blockRows) (codeDigit (now (file .entry)) (now (v .entry))) (matrixB .blockRows * b) (r .low) (r .high) ⌝ }
+// A row's block, and its place among the rows there.
+struct Place {
+    block: usize,
+    row: usize,
+}
+
+// Digits that are not written yet, and the next row: its number, its block and its place there.
+struct Gathered {
+    low: u64,
+    high: u64,
+    done: usize,
+    block: usize,
+    place: usize,
+}
+
+// The digits of `n` rows of block `b`, from place `r` on.
+fn piece(layout: Layout, file: &[u8], v: &[u8], b: usize, r: usize, n: usize) -> Digits
+    requires { ⌜ Fits (layoutOf layout) × (length (now file) ≡ fileSize (layoutOf layout)) × (length (now v) ≡ layoutOf layout .rowBytes) × (b < blockCount (layoutOf layout)) × (r + n ≤ rowsIn (layoutOf layout) b) × (n ≤ 8) ⌝ }
+    ensures { λ d. ⌜ Span n (codeDigit (layoutOf layout) (now (file .entry)) (now (v .entry))) (layoutOf layout .blockRows * b + r) (d .low) (d .high) ⌝ }
 {
+    let at = BLOCK_BYTES * b + HEAD_BYTES + layout.row_bytes * r;
+    let end = at + layout.row_bytes * n;
     let mut planes = [0u8; 2];
-    matrix_product(rows_of_block(file, b), v, rows_in(b), &mut planes);
+    matrix_product(&file[at..end], v, n, &mut planes);
     Digits {
         low: wide(planes[0]),
         high: wide(planes[1]),
     }
 }
 
-// The digits of the rows in the `n` blocks from `first` on, last block first.
-fn blocks_digits(file: &[u8], v: &[u8], first: usize, n: usize) -> Digits
-    requires { ⌜ (length (now file) ≡ fileBytes) × (length (now v) ≡ matrixB .rowBytes) × (first + n ≤ blockCount matrixB) × (n ≤ 8) ⌝ }
-    ensures { λ r. ⌜ Span (matrixB .blockRows * n) (codeDigit (now (file .entry)) (now (v .entry))) (matrixB .blockRows * first) (r .low) (r .high) ⌝ }
+// The same row, by the next block where place `r` is past block `b`.
+fn place_of(layout: Layout, b: usize, r: usize) -> Place
+    requires { ⌜ Fits (layoutOf layout) × (b < blockCount (layoutOf layout)) × (r ≤ layoutOf layout .blockRows) ⌝ }
+    ensures { λ p. ⌜ (layoutOf layout .blockRows * p .block + p .row ≡ layoutOf layout .blockRows * b + r) × (p .row < layoutOf layout .blockRows) ⌝ }
 {
-    let mut low: u64 = 0;
-    let mut high: u64 = 0;
-    let mut k = n;
-    while 0 < k {
-        k -= 1;
-        let d = block_digits(file, v, first + k);
-        low = BLOCK_ROOM * low + d.low;
-        high = BLOCK_ROOM * high + d.high;
+    if r < layout.block_rows {
+        return Place { block: b, row: r };
     }
-    Digits { low, high }
+    Place {
+        block: b + 1,
+        row: 0,
+    }
 }
 
-// Byte `p` of a plane: the digits of the first blocks are in `x`, those of the others in `y`.
-fn plane_byte(x: u64, y: u64, p: usize) -> u8
-    requires { ⌜ p < codePlane ⌝ }
-    ensures { λ r. ⌜ r ≡ planeByte x y p ⌝ }
+// Up to eight digits more, of one block.
+fn more(layout: Layout, file: &[u8], v: &[u8], start: usize, g: Gathered) -> Gathered
+    requires { ⌜ Fits (layoutOf layout) × (length (now file) ≡ fileSize (layoutOf layout)) × (length (now v) ≡ layoutOf layout .rowBytes) × Gathering (layoutOf layout) (codeDigit (layoutOf layout) (now file) (now v)) start (g .done) (g .block) (g .place) (g .low) (g .high) × (start ≤ g .done) × (g .done < start + 8) × (g .done < layoutOf layout .rowCount) ⌝ }
+    ensures { λ r. ⌜ Gathering (layoutOf layout) (codeDigit (layoutOf layout) (now (file .entry)) (now (v .entry))) start (r .done) (r .block) (r .place) (r .low) (r .high) × (g .done < r .done) ⌝ }
 {
-    if p < FIRST_BYTES {
-        return byte_of(x, 8 * p);
+    let n = least(8, rows_in(layout, g.block) - g.place);
+    let d = piece(layout, file, v, g.block, g.place, n);
+    let next = place_of(layout, g.block, g.place + n);
+    let have = g.done - start;
+    Gathered {
+        low: g.low | d.low << have,
+        high: g.high | d.high << have,
+        done: g.done + n,
+        block: next.block,
+        place: next.row,
     }
-    byte_of(y, 8 * (p - FIRST_BYTES))
 }
 
-// The 81 rows of a file times a vector, modulo 3, as a code.
-pub fn code_of(file: &[u8], v: &[u8]) -> [u8; CODE_BYTES]
-    requires { ⌜ (length (now file) ≡ fileBytes) × (length (now v) ≡ matrixB .rowBytes) ⌝ }
-    ensures { λ r. ⌜ r ≡ matrixProduct codePlane rowPlane (matrixB .rowCount) (rows (now (file .entry))) (now (v .entry)) ⌝ }
+// The digits up to row `end`, and those of its block that come with them.
+fn gather(layout: Layout, file: &[u8], v: &[u8], start: usize, end: usize, g: Gathered) -> Gathered
+    requires { ⌜ Fits (layoutOf layout) × (length (now file) ≡ fileSize (layoutOf layout)) × (length (now v) ≡ layoutOf layout .rowBytes) × Gathering (layoutOf layout) (codeDigit (layoutOf layout) (now file) (now v)) start (g .done) (g .block) (g .place) (g .low) (g .high) × (start ≤ g .done) × (end ≡ min (start + 8) (layoutOf layout .rowCount)) ⌝ }
+    ensures { λ r. ⌜ Gathering (layoutOf layout) (codeDigit (layoutOf layout) (now (file .entry)) (now (v .entry))) start (r .done) (r .block) (r .place) (r .low) (r .high) × (start ≤ r .done) × (end ≤ r .done) ⌝ }
 {
-    let s = blocks_digits(file, v, 0, FIRST_BLOCKS);
-    let t = blocks_digits(file, v, FIRST_BLOCKS, OTHER_BLOCKS);
-    let mut code = [0u8; CODE_BYTES];
+    let mut all = g;
+    while all.done < end {
+        all = more(layout, file, v, start, all);
+    }
+    all
+}
+
+// The lowest byte of a word.
+fn low_byte(x: u64) -> u8
+    ensures { λ r. ⌜ r ≡ x % 256 ⌝ }
+{
+    (x % 256) as u8
+}
+
+// What is left after eight digits.
+fn after_byte(g: Gathered) -> Gathered
+    ensures { λ r. ⌜ (r .low ≡ g .low / 256) × (r .high ≡ g .high / 256) × (r .done ≡ g .done) × (r .block ≡ g .block) × (r .place ≡ g .place) ⌝ }
+{
+    Gathered {
+        low: g.low / 256,
+        high: g.high / 256,
+        done: g.done,
+        block: g.block,
+        place: g.place,
+    }
+}
+
+// The rows of a file times a vector, modulo 3, as a code.
+pub fn code_of(layout: Layout, file: &[u8], v: &[u8], out: &mut [u8])
+    requires { ⌜ Fits (layoutOf layout) × (length (now file) ≡ fileSize (layoutOf layout)) × (length (now v) ≡ layoutOf layout .rowBytes) × (2 * codePlaneOf (layoutOf layout) ≤ length (now out)) ⌝ }
+    ensures { λ _. ⌜
+        now (out .exit) ≡
+        matrixProduct (codePlaneOf (layoutOf layout)) (rowPlaneOf (layoutOf layout)) (layoutOf layout .rowCount) (rowsOf (layoutOf layout) (now (file .entry))) (now (v .entry))
+        ++ drop (2 * codePlaneOf (layoutOf layout)) (now (out .entry))
+        ⌝ }
+{
+    let count = layout.row_count;
+    let n = (count + 7) / 8;
+    let mut g = Gathered {
+        low: 0,
+        high: 0,
+        done: 0,
+        block: 0,
+        place: 0,
+    };
     let mut p: usize = 0;
-    while p < PLANE_BYTES {
-        code[p] = plane_byte(s.low, t.low, p);
-        code[PLANE_BYTES + p] = plane_byte(s.high, t.high, p);
+    while p < n {
+        let all = gather(layout, file, v, 8 * p, least(8 * p + 8, count), g);
+        out[p] = low_byte(all.low);
+        out[n + p] = low_byte(all.high);
+        g = after_byte(all);
         p += 1;
     }
-    code
 }

@@ -11,9 +11,10 @@ use lib.Dec.{eqb, lit<}
 use lib.ListN.{length, getD, take, drop, length-append}
 use Rattle.linear_model.specs.Tables.{tabulate, from}
 use Rattle.linear_model.proofs.Strings.{length-zeros}
-use Rattle.matrix_model.specs.Block.{firstSum, secondSum, check, checkHolds, rowsIn, rowsEnd, frontOf, blockOf}
-use Rattle.matrix_model.specs.File.{matrixB, fileByte}
+use Rattle.matrix_model.specs.Block.{Layout, firstSum, secondSum, check, checkHolds, rowsIn, rowsEnd, frontOf, blockOf}
+use Rattle.matrix_model.specs.File.{Fits, blockCount, rowsSize, fileByte}
 use Rattle.matrix_model.proofs.Parts.{length-part, table-of}
+use Rattle.matrix_model.proofs.Layouts.{before-check, next-bytes}
 
 -- ---- sums
 
@@ -57,20 +58,21 @@ unfolding check
 length-check s = refl
 
 -- bytes 0 to 509 of a block that is written, and the whole
-module _ (rows : List ℕ) (h : length rows ≡ 5184) (b : ℕ) (l : b < 12) where
-  pub length-front : length (frontOf matrixB rows b) ≡ 510
+module _ (layout : Layout) (fits : Fits layout) (rows : List ℕ) (h : length rows ≡ rowsSize layout) (b : ℕ) (l : b < blockCount layout) where
+  pub length-front : length (frontOf layout rows b) ≡ 510
   unfolding frontOf
   length-front =
-      let e : length (take (64 * rowsIn matrixB b) (drop (448 * b) rows)) ≡ 64 * rowsIn matrixB b =
-      length-part (64 * rowsIn matrixB b) (448 * b) rows (omega arith) in
-      rw (length-append, length-append, e, length-zeros (510 - rowsEnd matrixB b)) (omega arith)
+      let n = layout .rowBytes * rowsIn layout b in
+      let at = layout .rowBytes * layout .blockRows * b in
+      let e : length (take n (drop at rows)) ≡ n = length-part n at rows (omega (arith, next-bytes layout fits b l)) in
+      rw (length-append, length-append, e, length-zeros (510 - rowsEnd layout b)) (omega (arith, before-check layout fits b))
 
-  pub length-block : length (blockOf matrixB rows b) ≡ 512
+  pub length-block : length (blockOf layout rows b) ≡ 512
   unfolding blockOf
-  length-block = rw (length-append, length-front, length-check (frontOf matrixB rows b))
+  length-block = rw (length-append, length-front, length-check (frontOf layout rows b))
 
   -- a block is the next part of the file
-  pub block-part : blockOf matrixB rows b ≡ tabulate 512 (from (512 * b) (fileByte matrixB rows))
+  pub block-part : blockOf layout rows b ≡ tabulate 512 (from (512 * b) (fileByte layout rows))
   block-part =
-      table-of (blockOf matrixB rows b) 512 (from (512 * b) (fileByte matrixB rows)) length-block
-      (λ k q. ap₂ (λ (i j : ℕ). getD (blockOf matrixB rows i) j 0) (omega arith) (omega arith))
+      table-of (blockOf layout rows b) 512 (from (512 * b) (fileByte layout rows)) length-block
+      (λ k q. ap₂ (λ (i j : ℕ). getD (blockOf layout rows i) j 0) (omega arith) (omega arith))

@@ -12,7 +12,7 @@ use lib.Dec.{lit<}
 use lib.ListN.{length}
 use lib.Seq.{take-all}
 use Rattle.matrix_model.specs.Block.{rowsIn, laidOut, firstSum, secondSum, check, checkHolds}
-use Rattle.matrix_model.specs.File.{matrixB, blockCount, fileBytes, rowsBytes, rowPlace, block, checkedBlock, laidOutBlock, badCheck, badLayout, faults, checkNumber}
+use Rattle.matrix_model.specs.File.{matrixB, blockCount, fileBytes, rowsBytes, rowPlace, block, checkedBlock, laidOutBlock, badCheckOf, badLayoutOf, faultsOf, badCheck, badLayout, checkNumber}
 use Rattle.matrix_model.proofs.Tests.{every-true, every-holds}
 use Rattle.matrix_model.proofs.Parts.{same-part}
 
@@ -70,7 +70,7 @@ zero-block b l =
     ∙ take-all 512 (zeros 512) (omega (arith, length-zeros 512))
 
 file-checked : badCheck (zeros 6144) ≡ false
-unfolding badCheck
+unfolding badCheckOf
 file-checked = ap not (every-true 12 (checkedBlock (zeros 6144)) (λ b l. ap checkHolds (zero-block b l) ∙ zeros-checked))
 
 zeros-laid-out : laidOut matrixB 0 (zeros 512) ≡ false
@@ -78,7 +78,7 @@ unfolding laidOut every
 zeros-laid-out = refl
 
 file-laid-out : badLayout (zeros 6144) ≡ true
-unfolding badLayout
+unfolding badLayoutOf
 file-laid-out = ap not (go (every 12 (laidOutBlock matrixB (zeros 6144))) refl)
   where
     go : (b : Bool) → every 12 (laidOutBlock matrixB (zeros 6144)) ≡ b → b ≡ false
@@ -88,5 +88,5 @@ file-laid-out = ap not (go (every 12 (laidOutBlock matrixB (zeros 6144))) refl)
         ∙ every-holds 12 (laidOutBlock matrixB (zeros 6144)) e 0 (lit< tt)))
 
 pub example-12 : (checkHolds (zeros 512) ≡ true) × (checkNumber (zeros fileBytes) ≡ 9)
-unfolding checkNumber faults first
+unfolding checkNumber faultsOf first
 example-12 = (zeros-checked, rw (file-checked, file-laid-out))

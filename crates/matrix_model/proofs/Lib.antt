@@ -2,6 +2,7 @@
 pub mod Tests
 pub mod Lowest
 pub mod Parts
+pub mod Layouts
 pub mod Blocks
 pub mod Rows
 pub mod WrittenBlocks

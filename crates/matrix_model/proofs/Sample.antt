@@ -14,10 +14,11 @@ use Rattle.linear_model.specs.Trits.{trit, packTrits, fitTrit, fitTrits, zeroTr
 use Rattle.linear_model.proofs.Tables.{length-tabulate, getD-tabulate, every-at}
 use Rattle.linear_model.proofs.Vectors.{trit-pack}
 use Rattle.numbers.proofs.Numbers.{is-true, first-zero}
-use Rattle.matrix_model.specs.File.{matrixB, fitRow, nonzeroRow, badTritRows, zeroRowRows, rowFaults, Survives}
+use Rattle.matrix_model.specs.File.{matrixB, fitRow, nonzeroRow, badTritOf, zeroRowOf, rowFaultsOf, Survives}
 use Rattle.matrix_model.specs.Sample.{oneAt, diagonalByte, diagonalRows, sampleFile}
 use Rattle.matrix_model.proofs.Tests.{every-true}
 use Rattle.matrix_model.proofs.RoundTrip.{survives}
+use Rattle.matrix_model.proofs.Layouts.{matrixB-fits}
 
 abbrev set : List ℕ
 set = diagonalRows matrixB
@@ -72,15 +73,15 @@ module _ (i : ℕ) (l : i < 81) where
       go false h = refl
       go true h = absurd (subst (λ (x : ℕ). T (eqb x 0)) one (h tt i (omega arith)))
 
-no-bad-trit : badTritRows set ≡ false
-unfolding badTritRows
+no-bad-trit : badTritOf matrixB set ≡ false
+unfolding badTritOf
 no-bad-trit = ap not (every-true 81 (fitRow matrixB set) row-fits)
 
-no-zero-row : zeroRowRows set ≡ false
-unfolding zeroRowRows
+no-zero-row : zeroRowOf matrixB set ≡ false
+unfolding zeroRowOf
 no-zero-row = ap not (every-true 81 (nonzeroRow matrixB set) row-not-zero)
 
 -- so its file is fit, and has these rows
 pub sample-survives : Survives (diagonalRows matrixB) sampleFile
-unfolding rowFaults
-sample-survives = survives set long (first-zero (rowFaults set) (no-bad-trit, (no-zero-row, tt)))
+unfolding rowFaultsOf
+sample-survives = survives matrixB matrixB-fits set long (first-zero (rowFaultsOf matrixB set) (no-bad-trit, (no-zero-row, tt)))

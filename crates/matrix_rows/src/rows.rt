@@ -3,35 +3,35 @@ ghost use mathlib.Core.Path.{_≡_};
 ghost use Prim.Native.Nat.{_+_, _*_, _<_, _≤_};
 ghost use lib.ListN.{length, take, drop};
 ghost use Rattle.numbers.specs.Number.{first};
-ghost use Rattle.matrix_model.specs.File.{matrixB, blockCount, rowFaults};
+ghost use Rattle.matrix_model.specs.File.{Fits, blockCount, rowFaultsOf};
 ghost use Rattle.matrix_model.specs.Internal.Rows.{rowsNumber, rowsHeld, heldBytes, rowsInSet};
+ghost use Rattle.matrix_blocks.specs.Layouts.{layoutOf};
 use linear::trits::row_is_zero;
 use linear::trits::trits_fit;
-use matrix_blocks::blocks::rows_in;
 use matrix_blocks::blocks::rows_of_block;
-use matrix_model::sizes::BLOCK_COUNT;
-use matrix_model::sizes::BLOCK_ROWS_BYTES;
-use matrix_model::sizes::ROW_BYTES;
-use matrix_model::sizes::ROW_TRITS;
+use matrix_blocks::blocks::rows_of_set;
+use matrix_blocks::counts::block_count;
+use matrix_blocks::counts::rows_in;
+use matrix_blocks::layouts::Layout;
 use numbers::table::DONE;
 use numbers::table::UNFIT_TRIT;
 use numbers::table::ZERO_ROW;
 
-// Row `i` of rows one after the other.
-fn row_of(rows: &[u8], i: usize) -> &[u8]
-    requires { ⌜ matrixB .rowBytes * i + matrixB .rowBytes ≤ length (now rows) ⌝ }
-    ensures { λ r. ⌜ now r ≡ take (matrixB .rowBytes) (drop (matrixB .rowBytes * i) (now (rows .entry))) ⌝ }
+// Row `i` of rows of `n` bytes one after the other.
+fn row_of(rows: &[u8], n: usize, i: usize) -> &[u8]
+    requires { ⌜ n * i + n ≤ length (now rows) ⌝ }
+    ensures { λ r. ⌜ now r ≡ take n (drop (n * i) (now (rows .entry))) ⌝ }
 {
-    let at = ROW_BYTES * i;
-    &rows[at..at + ROW_BYTES]
+    let at = n * i;
+    &rows[at..at + n]
 }
 
 // The number of one row.
-fn row_number(row: &[u8]) -> u32
-    requires { ⌜ length (now row) ≡ matrixB .rowBytes ⌝ }
-    ensures { λ r. ⌜ r ≡ rowsNumber 1 (now (row .entry)) ⌝ }
+fn row_number(layout: Layout, row: &[u8]) -> u32
+    requires { ⌜ Fits (layoutOf layout) × (length (now row) ≡ layoutOf layout .rowBytes) ⌝ }
+    ensures { λ r. ⌜ r ≡ rowsNumber (layoutOf layout) 1 (now (row .entry)) ⌝ }
 {
-    if trits_fit(row, ROW_TRITS) {
+    if trits_fit(row, 4 * layout.row_bytes) {
         if row_is_zero(row) {
             return ZERO_ROW;
         }
@@ -41,14 +41,14 @@ fn row_number(row: &[u8]) -> u32
 }
 
 // The number of `n` rows one after the other. A trit with both bits set comes before a zero row, wherever they stand, so it ends the loop.
-fn rows_number(rows: &[u8], n: usize) -> u32
-    requires { ⌜ length (now rows) ≡ matrixB .rowBytes * n ⌝ }
-    ensures { λ r. ⌜ r ≡ rowsNumber n (now (rows .entry)) ⌝ }
+fn rows_number(layout: Layout, rows: &[u8], n: usize) -> u32
+    requires { ⌜ Fits (layoutOf layout) × (length (now rows) ≡ layoutOf layout .rowBytes * n) ⌝ }
+    ensures { λ r. ⌜ r ≡ rowsNumber (layoutOf layout) n (now (rows .entry)) ⌝ }
 {
     let mut number: u32 = DONE;
     let mut i: usize = 0;
     while i < n {
-        let of_row = row_number(row_of(rows, i));
+        let of_row = row_number(layout, row_of(rows, layout.row_bytes, i));
         if of_row == UNFIT_TRIT {
             return UNFIT_TRIT;
         }
@@ -61,27 +61,26 @@ fn rows_number(rows: &[u8], n: usize) -> u32
 }
 
 // The rows of block `b`, in the blocks of a file or in a set of rows.
-fn rows_at(s: &[u8], in_blocks: bool, b: usize) -> &[u8]
-    requires { ⌜ (length (now s) ≡ heldBytes «in_blocks») × (b < blockCount matrixB) ⌝ }
-    ensures { λ r. ⌜ now r ≡ rowsInSet (rowsHeld «in_blocks» (now (s .entry))) b ⌝ }
+fn rows_at(layout: Layout, s: &[u8], in_blocks: bool, b: usize) -> &[u8]
+    requires { ⌜ Fits (layoutOf layout) × (length (now s) ≡ heldBytes (layoutOf layout) «in_blocks») × (b < blockCount (layoutOf layout)) ⌝ }
+    ensures { λ r. ⌜ now r ≡ rowsInSet (layoutOf layout) (rowsHeld (layoutOf layout) «in_blocks» (now (s .entry))) b ⌝ }
 {
     if in_blocks {
-        return rows_of_block(s, b);
+        return rows_of_block(layout, s, b);
     }
-    let at = BLOCK_ROWS_BYTES * b;
-    let end = at + ROW_BYTES * rows_in(b);
-    &s[at..end]
+    rows_of_set(layout, s, b)
 }
 
-// The number of 81 rows, block by block. A set of rows goes the same way, so that `rows_number` is called, and compiled, in one place.
-pub fn all_rows_number(s: &[u8], in_blocks: bool) -> u32
-    requires { ⌜ length (now s) ≡ heldBytes «in_blocks» ⌝ }
-    ensures { λ r. ⌜ r ≡ first (rowFaults (rowsHeld «in_blocks» (now (s .entry)))) ⌝ }
+// The number of all rows, block by block. A set of rows goes the same way, so that `rows_number` is called, and compiled, in one place.
+pub fn all_rows_number(layout: Layout, s: &[u8], in_blocks: bool) -> u32
+    requires { ⌜ Fits (layoutOf layout) × (length (now s) ≡ heldBytes (layoutOf layout) «in_blocks») ⌝ }
+    ensures { λ r. ⌜ r ≡ first (rowFaultsOf (layoutOf layout) (rowsHeld (layoutOf layout) «in_blocks» (now (s .entry)))) ⌝ }
 {
+    let blocks = block_count(layout);
     let mut number: u32 = DONE;
     let mut b: usize = 0;
-    while b < BLOCK_COUNT {
-        let of_block = rows_number(rows_at(s, in_blocks, b), rows_in(b));
+    while b < blocks {
+        let of_block = rows_number(layout, rows_at(layout, s, in_blocks, b), rows_in(layout, b));
         if of_block == UNFIT_TRIT {
             return UNFIT_TRIT;
         }

@@ -10,10 +10,13 @@ use Rattle.linear_model.specs.Bits.{zeros}
 use Rattle.linear_model.proofs.Copies.{pasted, Copied, copied-first, copied-more, copied-all}
 use Rattle.linear_model.proofs.Strings.{length-zeros}
 use Rattle.linear_model.proofs.Tables.{every-ext}
-use Rattle.matrix_model.specs.Block.{check, zeroByte, rowsIn, rowsEnd, frontOf, blockOf}
-use Rattle.matrix_model.specs.File.{matrixB, block}
+use Rattle.matrix_model.specs.Block.{Layout, check, zeroByte, rowsIn, rowsEnd, frontOf, blockOf}
+use Rattle.matrix_model.specs.File.{Fits, blockCount, fileSize, rowsSize, block}
 use Rattle.matrix_model.proofs.Parts.{length-part, getD-part}
+use Rattle.matrix_model.proofs.Layouts.{before-check}
 use Rattle.matrix_model.proofs.Blocks.{check-ext, length-check}
+use Rattle.matrix_model.specs.Internal.Rows.{rowsInSet}
+use Rattle.matrix_model.proofs.Internal.Rows.{long-set}
 use Rattle.matrix_model.proofs.Internal.Copies.{copied-kept, zeros-part}
 
 -- the unused bytes as a part of the block
@@ -50,18 +53,16 @@ block-put head part sums {s} {t} {u} e₁ e₂ e₃ e h l =
     copied-all (front ++ check front) u (copied-more 510 front (check front) t u three (sym k) (omega arith) w) (rw length-append (omega arith))
 
 -- and that is block b of the file of the rows
-pub block-made : (rows : List ℕ) (b n : ℕ) → length rows ≡ 5184 → b < 12 → n ≡ rowsIn matrixB b → (sums : List ℕ) {s t u : List ℕ}
-    → s ≡ pasted 0 (0x42 ∷ b ∷ n ∷ 1 ∷ []) (zeros 512)
-    → t ≡ pasted 4 (take (448 * b + 64 * n - 448 * b) (drop (448 * b) rows)) s
-    → u ≡ pasted 510 sums t → sums ≡ check t → u ≡ blockOf matrixB rows b
+pub block-made : (layout : Layout) → Fits layout → (rows : List ℕ) (b n : ℕ) → length rows ≡ rowsSize layout → b < blockCount layout → n ≡ rowsIn layout b
+    → (part sums : List ℕ) {s t u : List ℕ} → s ≡ pasted 0 (layout .letter ∷ b ∷ n ∷ layout .set ∷ []) (zeros 512) → part ≡ rowsInSet layout rows b
+    → t ≡ pasted 4 part s → u ≡ pasted 510 sums t → sums ≡ check t → u ≡ blockOf layout rows b
 unfolding blockOf frontOf
-block-made rows b n h l e sums e₁ e₂ e₃ f =
-    let k : 448 * b + 64 * n - 448 * b ≡ 64 * rowsIn matrixB b = omega arith in
-    let part = take (448 * b + 64 * n - 448 * b) (drop (448 * b) rows) in
-    let g : length part ≡ 64 * rowsIn matrixB b = rw k (length-part (64 * rowsIn matrixB b) (448 * b) rows (omega arith)) in
-    let i : 506 - length part ≡ 510 - rowsEnd matrixB b = omega arith in
-    block-put (0x42 ∷ b ∷ n ∷ 1 ∷ []) part sums e₁ e₂ e₃ f refl (omega arith) ∙ rw (i, k, e)
+block-made layout fits rows b n h l e part sums e₁ p e₂ e₃ f =
+    let g : length part ≡ layout .rowBytes * rowsIn layout b = long-set layout fits rows b h l part p in
+    let room = before-check layout fits b in
+    let i : 506 - length part ≡ 510 - rowsEnd layout b = omega arith in
+    block-put (layout .letter ∷ b ∷ n ∷ layout .set ∷ []) part sums e₁ e₂ e₃ f refl (omega arith) ∙ rw (i, p, e)
 
 -- a block of a file has 512 bytes
-pub long-block : (file : List ℕ) (b : ℕ) (s : List ℕ) → s ≡ block file b → length file ≡ 6144 → b < 12 → length s ≡ 512
-long-block file b s e h l = rw e (length-part 512 (512 * b) file (omega arith))
+pub long-block : (layout : Layout) (file : List ℕ) (b : ℕ) (s : List ℕ) → s ≡ block file b → length file ≡ fileSize layout → b < blockCount layout → length s ≡ 512
+long-block layout file b s e h l = rw e (length-part 512 (512 * b) file (omega arith))

@@ -1,72 +1,103 @@
--- Laws of the digits of rows times a vector, block by block: where they stand in the code.
+-- Laws of the digits of rows times a vector, up to eight rows at a time: where they stand in the code.
 use mathlib.Core.Path.{_≡_, refl, sym, ap, _∙_}
 use mathlib.Core.List.{List}
-use Prim.Native.Nat.{ℕ, _+_, _-_, _*_, _/_, _%_, _^_, _<_, _≤_}
-use native.Mathlib.Nat.{zero-add}
+use Prim.Native.Nat.{ℕ, _+_, _-_, _*_, _/_, _%_, _^_, _<_, _≤_, min}
+use native.Mathlib.Nat.{zero-add, mul-le-mul-left, lt-of-mul-lt-mul-left}
 use native.Mathlib.Decide.{decLt}
 use native.Mathlib.Omega.{arith}
 use borrow.Author.Tests.{lt-ltb, le-ltb}
-use lib.ListN.{getD, take, drop}
-use lib.Pow.{pow-mono}
+use lib.Bits.{bitOr}
+use lib.ListN.{length, getD, take, drop}
 use Rattle.linear_model.specs.Tables.{from, below, tabulate}
 use Rattle.linear_model.specs.Bits.{fromBits, pack}
 use Rattle.linear_model.specs.Trits.{trit, low, high, packTrits}
 use Rattle.linear_model.specs.Products.{tritTerm, rowProduct, rowDigit, matrixProduct}
 use Rattle.linear_model.specs.Internal.Planes.{PlaneBits}
 use Rattle.linear_model.proofs.Sums.{sum-ext}
-use Rattle.linear_model.proofs.NumberBits.{from-bits-ext, from-bits-lt, from-bits-zeros}
-use Rattle.linear_model.proofs.WordBits.{from-bits-add, from-bits-low, from-bits-high}
+use Rattle.linear_model.proofs.NumberBits.{from-bits-ext, from-bits-zeros}
+use Rattle.linear_model.proofs.WordBits.{or-part, from-bits-low, from-bits-high}
 use Rattle.linear_model.proofs.Linearity.{digit-below}
 use Rattle.linear_model.proofs.Tables.{below-past}
-use Rattle.matrix_model.specs.Block.{rowsIn}
-use Rattle.matrix_model.specs.File.{matrixB, rows}
-use Rattle.matrix_model.specs.Internal.Digits.{codeDigit, Span, planeByte}
+use Rattle.matrix_model.specs.Block.{Layout, rowsIn}
+use Rattle.matrix_model.specs.File.{Fits, blockCount, fileSize, rowPlaneOf, rowsOf}
+use Rattle.matrix_model.specs.Internal.Digits.{codeDigit, Span, Gathering}
+use Rattle.matrix_model.proofs.Parts.{length-part, getD-part}
+use Rattle.matrix_model.proofs.Layouts.{before-check, covered, next-rows, full}
+use Rattle.matrix_model.proofs.Rows.{length-rows, getD-rows}
 use Rattle.matrix_model.proofs.Internal.Rows.{trit-take}
 use Rattle.matrix_model.proofs.Internal.RowNumbers.{Among, same-row}
 
 -- ---- the digits of a part
 
 -- a row's product reads no more than the row
-product-take : (s v : List ℕ) → rowProduct 32 (take 64 s) v ≡ rowProduct 32 s v
-product-take s v =
-    ap (λ (z : ℕ). z % 3) (sum-ext 256 (tritTerm 32 (take 64 s) v) (tritTerm 32 s v) (λ j l. ap (λ (x : ℕ). x * trit 32 v j) (trit-take 32 s j l)))
+product-take : (m : ℕ) (s v : List ℕ) → rowProduct m (take (2 * m) s) v ≡ rowProduct m s v
+product-take m s v =
+    ap (λ (z : ℕ). z % 3) (sum-ext (8 * m) (tritTerm m (take (2 * m) s) v) (tritTerm m s v) (λ j l. ap (λ (x : ℕ). x * trit m v j) (trit-take m s j l)))
 
-digit-part : {set : List ℕ} {i k : ℕ} {part : List ℕ} → Among set i k part → (v : List ℕ) (j : ℕ) → j < k → rowDigit 32 part v j ≡ rowDigit 32 set v (i + j)
-digit-part {set} {i} {k} {part} a v j l =
-    sym (product-take (drop (64 * j) part) v)
-    ∙ ap (λ (r : List ℕ). rowProduct 32 r v) (sym (same-row a j l))
-    ∙ product-take (drop (64 * (i + j)) set) v
+module _ (layout : Layout) (fits : Fits layout) (file v : List ℕ) where
+  abbrev plane : ℕ
+  plane = rowPlaneOf layout
 
--- of block b
-module _ (file v part : List ℕ) (b n : ℕ) (a : Among (rows file) (7 * b) n part) (l : b < 12) (e : n ≡ rowsIn matrixB b) where
-  block-digit : (k : ℕ) → k < 7 → below n (rowDigit 32 part v) k ≡ codeDigit file v (7 * b + k)
-  block-digit k h = go (decLt k n)
-    where
-      go : Dec (k < n) → below n (rowDigit 32 part v) k ≡ codeDigit file v (7 * b + k)
-      go (yes r) = rw (lt-ltb k n r, lt-ltb (7 * b + k) 81 (omega arith)) (digit-part a v k r)
-      go (no r) = rw (le-ltb k n (omega arith), le-ltb (7 * b + k) 81 (omega arith))
+  digit-part : {i k : ℕ} {part : List ℕ} → Among layout (rowsOf layout file) i k part → (j : ℕ) → j < k → i + k ≤ layout .rowCount
+      → rowDigit plane part v j ≡ codeDigit layout file v (i + j)
+  digit-part {i} {k} {part} a j l h =
+      rw (lt-ltb (i + j) (layout .rowCount) (omega arith))
+      (sym (product-take plane (drop (2 * plane * j) part) v)
+      ∙ ap (λ (r : List ℕ). rowProduct plane r v) (sym (same-row fits a j l))
+      ∙ product-take plane (drop (2 * plane * (i + j)) (rowsOf layout file)) v)
 
-  -- seven bits of the byte that eight rows would make
-  seven : (g : ℕ → ℕ) → g 0 ≡ 0 → fromBits 8 (from 0 (λ k. g (below n (rowDigit 32 part v) k))) ≡ fromBits 7 (from (7 * b) (λ k. g (codeDigit file v k)))
-  seven g z =
-      from-bits-zeros 7 1 (from 0 (λ k. g (below n (rowDigit 32 part v) k))) (λ i. rw (le-ltb (0 + (7 + i)) n (omega arith)) z)
-      ∙ from-bits-ext 7 (from 0 (λ k. g (below n (rowDigit 32 part v) k))) (from (7 * b) (λ k. g (codeDigit file v k)))
-      (λ k h. ap (λ (j : ℕ). g (below n (rowDigit 32 part v) j)) (zero-add k) ∙ ap g (block-digit k h))
+  -- n rows from place r of block b on
+  module _ (b r n : ℕ) (h : length file ≡ fileSize layout) (l : b < blockCount layout) (m : r + n ≤ rowsIn layout b) where
+    ends : layout .rowBytes * (r + n) ≤ layout .rowBytes * rowsIn layout b
+    ends = mul-le-mul-left (layout .rowBytes) m
 
-  pub block-span : (planes : List ℕ) → planes ≡ matrixProduct 1 32 n part v → Span 7 (codeDigit file v) (7 * b) (getD planes 0 0) (getD planes 1 0)
-  unfolding matrixProduct packTrits pack tabulate
-  block-span planes p =
-      record {
-        low-is = ap (λ (s : List ℕ). getD s 0 0) p ∙ seven (λ d. d % 2) refl;
-        high-is = ap (λ (s : List ℕ). getD s 1 0) p ∙ seven (λ d. d / 2) refl;
-      }
+    pub piece-within : 512 * b + 4 + layout .rowBytes * r + layout .rowBytes * n ≤ length file
+    piece-within = omega (arith, ends, before-check layout fits b)
 
--- ---- blocks that are put together
+    pub among-piece : (part : List ℕ) → part ≡ take (layout .rowBytes * n) (drop (512 * b + 4 + layout .rowBytes * r) file)
+        → Among layout (rowsOf layout file) (layout .blockRows * b + r) n part
+    among-piece part e =
+        let w = layout .rowBytes in
+        let all : w * (layout .blockRows * b + r + n) ≤ w * layout .rowCount = mul-le-mul-left w (omega (arith, next-rows layout fits b l)) in
+        let at = 512 * b + 4 + w * r in
+        record {
+          within = omega (arith, length-rows layout file);
+          long = rw e (length-part (w * n) at file piece-within);
+          same =
+              λ q t. ap (λ (x : ℕ). getD (rowsOf layout file) x 0) {y = w * layout .blockRows * b + (w * r + q)} (omega arith)
+              ∙ getD-rows layout fits file b (w * r + q) (full layout fits b (w * r + q) (omega (arith, ends))) (omega arith)
+              ∙ rw e (ap (λ (x : ℕ). getD file x 0) {y = at + q} (omega arith) ∙ sym (getD-part (w * n) at file q t));
+        }
 
-more : (g : ℕ → ℕ) (m j x a : ℕ) → x ≡ fromBits m (from (j + 7) g) → a ≡ fromBits 7 (from j g) → 128 * x + a ≡ fromBits (7 + m) (from j g)
-more g m j x a p q =
-    let r : fromBits m (from 7 (from j g)) ≡ fromBits m (from (j + 7) g) = from-bits-ext m (from 7 (from j g)) (from (j + 7) g) (λ k _. ap g (omega arith)) in
-    sym (from-bits-add 7 m (from j g) ∙ rw (r, ← p, ← q) (omega arith))
+  -- up to eight digits, from the planes of their product
+  module _ {part : List ℕ} {i n : ℕ} (a : Among layout (rowsOf layout file) i n part) (h : i + n ≤ layout .rowCount) (t : n ≤ 8) where
+    some-bits : (g : ℕ → ℕ) → g 0 ≡ 0 → fromBits 8 (from 0 (λ k. g (below n (rowDigit plane part v) k))) ≡ fromBits n (from i (λ k. g (codeDigit layout file v k)))
+    some-bits g z =
+        let d : ℕ → ℕ = λ k. g (below n (rowDigit plane part v) k) in
+        let e : 8 ≡ n + (8 - n) = omega arith in
+        ap (λ (k : ℕ). fromBits k (from 0 d)) e
+        ∙ from-bits-zeros n (8 - n) (from 0 d) (λ k. rw (le-ltb (0 + (n + k)) n (omega arith)) z)
+        ∙ from-bits-ext n (from 0 d) (from i (λ k. g (codeDigit layout file v k)))
+        (λ k l. ap d (zero-add k) ∙ ap g (rw (lt-ltb k n l) (digit-part a k l h)))
+
+    pub piece-span : (planes : List ℕ) → planes ≡ matrixProduct 1 plane n part v → Span n (codeDigit layout file v) i (getD planes 0 0) (getD planes 1 0)
+    unfolding matrixProduct packTrits pack tabulate
+    piece-span planes p =
+        record {
+          low-is = ap (λ (s : List ℕ). getD s 0 0) p ∙ some-bits (λ d. d % 2) refl;
+          high-is = ap (λ (s : List ℕ). getD s 1 0) p ∙ some-bits (λ d. d / 2) refl;
+        }
+
+  -- digits are below 3, and 0 past the last row
+  pub code-small : (i : ℕ) → codeDigit layout file v i < 3
+  code-small = digit-below (layout .rowCount) plane (rowsOf layout file) v
+
+  pub code-past : (i : ℕ) → layout .rowCount ≤ i → codeDigit layout file v i ≡ 0
+  code-past i h =
+      ap (codeDigit layout file v) {y = layout .rowCount + (i - layout .rowCount)} (omega arith)
+      ∙ below-past (layout .rowCount) (rowDigit plane (rowsOf layout file) v) (i - layout .rowCount)
+
+-- ---- digits that are put together
 
 module _ {f : ℕ → ℕ} where
   -- no digits
@@ -74,57 +105,107 @@ module _ {f : ℕ → ℕ} where
   unfolding fromBits
   span-none = record { low-is = refl; high-is = refl }
 
-  -- seven digits more, in front
-  pub span-more : {m j x y a b : ℕ} → Span m f (j + 7) x y → Span 7 f j a b → Span (7 + m) f j (128 * x + a) (128 * y + b)
-  span-more {m} {j} s t = record { low-is = more (low f) m j _ _ (s .low-is) (t .low-is); high-is = more (high f) m j _ _ (s .high-is) (t .high-is) }
-
-  -- digits below 3 have bits
   module _ (small : (i : ℕ) → f i < 3) where
-    pub span-small : {m i x y : ℕ} → Span m f i x y → (n : ℕ) → m ≤ n → (x < 2 ^ n) × (y < 2 ^ n)
-    span-small {m} {i} s n h = (
-      omega (arith, s .low-is, from-bits-lt m (from i (low f)) (λ k. omega arith), pow-mono {i = m} {j = n} h),
-      omega (arith, s .high-is, from-bits-lt m (from i (high f)) (λ k. omega (arith, small (i + k))), pow-mono {i = m} {j = n} h),
-    )
+    low-bit : (i k : ℕ) → from i (low f) k < 2
+    low-bit i k = omega arith
 
--- ---- bytes of the code
+    high-bit : (i k : ℕ) → from i (high f) k < 2
+    high-bit i k = omega (arith, small (i + k))
 
--- eight bits of a number
-number-byte : (n j : ℕ) (f : ℕ → ℕ) → ((i : ℕ) → f i < 2) → j + 8 ≤ n → fromBits n f / 2 ^ j % 256 ≡ fromBits 8 (from j f)
-number-byte n j f small h =
-    let e : n ≡ j + (8 + (n - j - 8)) = omega arith in
-    ap (λ (k : ℕ). fromBits k f / 2 ^ j % 256) e
-    ∙ ap (λ (x : ℕ). x % 256) (from-bits-high j (8 + (n - j - 8)) f small)
-    ∙ from-bits-low 8 (n - j - 8) (from j f) (λ i. small (j + i))
+    -- n digits more, behind
+    pub span-more : {m n i j x y a b : ℕ} → Span m f i x y → Span n f j a b → j ≡ i + m → m + n ≤ 64
+        → Span (m + n) f i (bitOr x (a * 2 ^ m % 2 ^ 64)) (bitOr y (b * 2 ^ m % 2 ^ 64))
+    span-more {m} {n} {i} {j} s t e l =
+        record {
+          low-is = or-part 64 m n _ _ (from i (low f)) (omega arith) (low-bit i) (s .low-is) (t .low-is ∙ from-bits-ext n (from j (low f)) (from m (from i (low f))) (λ k _. ap (low f) (omega arith)));
+          high-is = or-part 64 m n _ _ (from i (high f)) (omega arith) (high-bit i) (s .high-is) (t .high-is ∙ from-bits-ext n (from j (high f)) (from m (from i (high f))) (λ k _. ap (high f) (omega arith)));
+        }
 
--- byte p of 88 bits: 56 in x, and the others, of which the last four are 0, in y
-plane-byte : (g : ℕ → ℕ) (x y p : ℕ) → ((i : ℕ) → g i < 2) → ((i : ℕ) → g (84 + i) ≡ 0) → x ≡ fromBits 56 (from 0 g) → y ≡ fromBits 28 (from 56 g) → p < 11
-    → planeByte x y p ≡ fromBits 8 (from (8 * p) g)
-plane-byte g x y p small z ex ey h = go (decLt p 7)
-  where
-    whole : y ≡ fromBits 32 (from 56 g)
-    whole = ey ∙ sym (from-bits-zeros 28 4 (from 56 g) (λ i. ap g (omega arith) ∙ z i))
+    -- eight digits or more: a byte of each plane, and the others
+    first-eight : (k p : ℕ) {x y : ℕ} → Span (8 + k) f (8 * p) x y → PlaneBits 8 f p (x % 256) (y % 256)
+    first-eight k p s =
+        record {
+          low-is = ap (λ (z : ℕ). z % 256) (s .low-is) ∙ from-bits-low 8 k (from (8 * p) (low f)) (low-bit (8 * p));
+          high-is = ap (λ (z : ℕ). z % 256) (s .high-is) ∙ from-bits-low 8 k (from (8 * p) (high f)) (high-bit (8 * p));
+        }
 
-    go : Dec (p < 7) → planeByte x y p ≡ fromBits 8 (from (8 * p) g)
-    go (yes l) =
-        rw (lt-ltb p 7 l, ex)
-        (number-byte 56 (8 * p) (from 0 g) (λ i. small (0 + i)) (omega arith)
-        ∙ from-bits-ext 8 (from (8 * p) (from 0 g)) (from (8 * p) g) (λ k _. ap g (zero-add (8 * p + k))))
-    go (no l) =
-        rw (le-ltb p 7 (omega arith), whole)
-        (number-byte 32 (8 * (p - 7)) (from 56 g) (λ i. small (56 + i)) (omega arith)
-        ∙ from-bits-ext 8 (from (8 * (p - 7)) (from 56 g)) (from (8 * p) g) (λ k _. ap g (omega arith)))
+    after-eight : (k p : ℕ) {x y : ℕ} → Span (8 + k) f (8 * p) x y → Span k f (8 * (p + 1)) (x / 256) (y / 256)
+    after-eight k p s =
+        record {
+          low-is =
+              ap (λ (z : ℕ). z / 256) (s .low-is) ∙ from-bits-high 8 k (from (8 * p) (low f)) (low-bit (8 * p))
+              ∙ from-bits-ext k (from 8 (from (8 * p) (low f))) (from (8 * (p + 1)) (low f)) (λ i _. ap (low f) (omega arith));
+          high-is =
+              ap (λ (z : ℕ). z / 256) (s .high-is) ∙ from-bits-high 8 k (from (8 * p) (high f)) (high-bit (8 * p))
+              ∙ from-bits-ext k (from 8 (from (8 * p) (high f))) (from (8 * (p + 1)) (high f)) (λ i _. ap (high f) (omega arith));
+        }
 
-pub code-byte : (file v : List ℕ) {x y u w : ℕ} (p s t : ℕ) → Span 56 (codeDigit file v) 0 x u → Span 28 (codeDigit file v) 56 y w → p < 11
-    → s ≡ planeByte x y p
-    → t ≡ planeByte u w p → PlaneBits 8 (codeDigit file v) p s t
-code-byte file v p s t a b h es et =
-    let f = codeDigit file v in
-    let past : (i : ℕ) → f (84 + i) ≡ 0 =
-    λ i. let e : 84 + i ≡ 81 + (3 + i) = omega arith in ap f e ∙ below-past 81 (rowDigit 32 (rows file) v) (3 + i)
-    in
-    record {
-      low-is = es ∙ plane-byte (low f) _ _ p (λ i. omega arith) (λ i. ap (λ (d : ℕ). d % 2) (past i)) (a .low-is) (b .low-is) h;
-      high-is =
-          et
-          ∙ plane-byte (high f) _ _ p (λ i. omega (arith, digit-below 81 32 (rows file) v i)) (λ i. ap (λ (d : ℕ). d / 2) (past i)) (a .high-is) (b .high-is) h;
-    }
+    -- fewer count as eight where all others are 0
+    filled : (n p : ℕ) {x y : ℕ} → Span n f (8 * p) x y → (n < 8 → (i : ℕ) → f (8 * p + (n + i)) ≡ 0) → Span (8 + (n - 8)) f (8 * p) x y
+    filled n p {x} {y} s zeros = go (decLt n 8)
+      where
+        go : Dec (n < 8) → Span (8 + (n - 8)) f (8 * p) x y
+        go (yes l) =
+            let e : 8 + (n - 8) ≡ n + (8 - n) = omega arith in
+            rw e (record {
+              low-is = s .low-is ∙ sym (from-bits-zeros n (8 - n) (from (8 * p) (low f)) (λ i. ap (λ (d : ℕ). d % 2) (zeros l i)));
+              high-is = s .high-is ∙ sym (from-bits-zeros n (8 - n) (from (8 * p) (high f)) (λ i. ap (λ (d : ℕ). d / 2) (zeros l i)));
+            })
+        go (no l) =
+            let e : 8 + (n - 8) ≡ n = omega arith in
+            rw e s
+
+    -- a byte of the code, and what is left for the next
+    pub span-byte : (p : ℕ) {n x y : ℕ} → Span n f (8 * p) x y → (n < 8 → (i : ℕ) → f (8 * p + (n + i)) ≡ 0) → PlaneBits 8 f p (x % 256) (y % 256)
+    span-byte p {n} s zeros = first-eight (n - 8) p (filled n p s zeros)
+
+    pub span-left : (p : ℕ) {n x y : ℕ} → Span n f (8 * p) x y → (n < 8 → (i : ℕ) → f (8 * p + (n + i)) ≡ 0) → Span (n - 8) f (8 * (p + 1)) (x / 256) (y / 256)
+    span-left p {n} s zeros = after-eight (n - 8) p (filled n p s zeros)
+
+-- ---- digits that are gathered, row after row
+
+module _ {layout : Layout} (fits : Fits layout) {f : ℕ → ℕ} where
+  -- none yet
+  pub gathering-none : Gathering layout f 0 0 0 0 0 0
+  gathering-none = record { digits = span-none; at = omega arith; inside = fits .some-rows; within = omega arith }
+
+  module _ {start done block place x y : ℕ} (g : Gathering layout f start done block place x y) where
+    -- the next row's block, and its place there
+    pub next-block : done < layout .rowCount → block < blockCount layout
+    next-block l = lt-of-mul-lt-mul-left (layout .blockRows) (omega (arith, g .at, covered layout fits))
+
+    pub next-place : done < layout .rowCount → place < rowsIn layout block
+    next-place l = omega (arith, g .at, g .inside)
+
+    module _ (small : (i : ℕ) → f i < 3) where
+      -- n digits more
+      pub gathering-more : {n a b : ℕ} (block′ place′ : ℕ) → Span n f (layout .blockRows * block + place) a b → start ≤ done → done - start + n ≤ 64
+          → done + n ≤ layout .rowCount → layout .blockRows * block′ + place′ ≡ layout .blockRows * block + (place + n) → place′ < layout .blockRows
+          → Gathering layout f start (done + n) block′ place′ (bitOr x (a * 2 ^ (done - start) % 2 ^ 64)) (bitOr y (b * 2 ^ (done - start) % 2 ^ 64))
+      gathering-more {n} block′ place′ s h room l e i =
+          let k : done + n - start ≡ done - start + n = omega arith in
+          record {
+            digits = rw k (span-more small (g .digits) s (omega (arith, g .at)) room);
+            at = omega (arith, g .at);
+            inside = i;
+            within = l;
+          }
+
+module _ {layout : Layout} {f : ℕ → ℕ} (small : (i : ℕ) → f i < 3) (past : (i : ℕ) → layout .rowCount ≤ i → f i ≡ 0) where
+  module _ (p : ℕ) {done block place x y : ℕ} (g : Gathering layout f (8 * p) done block place x y) (h : 8 * p ≤ done) (all : min (8 * p + 8) (layout .rowCount) ≤ done) where
+    zeros : done - 8 * p < 8 → (i : ℕ) → f (8 * p + (done - 8 * p + i)) ≡ 0
+    zeros l i = past (8 * p + (done - 8 * p + i)) (omega arith)
+
+    -- eight digits, or all that are left, are a byte of each plane; and what is left for the next
+    pub gathering-byte : PlaneBits 8 f p (x % 256) (y % 256)
+    gathering-byte = span-byte small p (g .digits) zeros
+
+    pub gathering-left : Gathering layout f (8 * (p + 1)) done block place (x / 256) (y / 256)
+    gathering-left =
+        let k : done - 8 * p - 8 ≡ done - 8 * (p + 1) = omega arith in
+        record {
+          digits = rw k at (span-left small p (g .digits) zeros);
+          at = g .at;
+          inside = g .inside;
+          within = g .within;
+        }

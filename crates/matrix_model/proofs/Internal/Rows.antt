@@ -9,11 +9,11 @@ use Rattle.linear_model.specs.Tables.{tabulate, from}
 use Rattle.linear_model.specs.Trits.{trit, fitTrit, fitTrits, zeroTrit, zeroTrits}
 use Rattle.linear_model.proofs.Tables.{every-ext}
 use Rattle.linear_model.proofs.Strings.{bit-take}
-use Rattle.matrix_model.specs.Block.{rowsIn}
-use Rattle.matrix_model.specs.File.{matrixB, rowByte}
-use Rattle.matrix_model.specs.Internal.Rows.{rowsInFile}
+use Rattle.matrix_model.specs.Block.{Layout, rowsIn}
+use Rattle.matrix_model.specs.File.{Fits, blockCount, fileSize, rowsSize, rowByte}
+use Rattle.matrix_model.specs.Internal.Rows.{rowsInFile, rowsInSet}
 use Rattle.matrix_model.proofs.Parts.{length-part, getD-part, table-of}
-use Rattle.matrix_model.proofs.Rows.{row-byte}
+use Rattle.matrix_model.proofs.Layouts.{before-check, next-bytes, row-byte, full}
 
 -- ---- a test of a row reads no more than the row
 
@@ -35,14 +35,26 @@ zero-take m s =
 
 -- ---- the rows of a block
 
--- the rows in block b are the next of the rows
-pub rows-part : (file : List ℕ) (b : ℕ) → length file ≡ 6144 → b < 12
-    → rowsInFile file b ≡ tabulate (64 * rowsIn matrixB b) (from (448 * b) (rowByte matrixB file))
-rows-part file b h l =
-    table-of (rowsInFile file b) (64 * rowsIn matrixB b) (from (448 * b) (rowByte matrixB file))
-    (length-part (64 * rowsIn matrixB b) (512 * b + 4) file (omega arith))
-    (λ k q. getD-part (64 * rowsIn matrixB b) (512 * b + 4) file k q ∙ sym (row-byte file b k (omega arith)))
+module _ (layout : Layout) (fits : Fits layout) (file : List ℕ) (b : ℕ) (h : length file ≡ fileSize layout) (l : b < blockCount layout) where
+  -- they are within the file
+  pub within-file : 512 * b + 4 + layout .rowBytes * rowsIn layout b ≤ length file
+  within-file = omega (arith, before-check layout fits b)
 
-pub long-part : (file : List ℕ) (b : ℕ) (part : List ℕ) → part ≡ rowsInFile file b → length file ≡ 6144 → b < 12
-    → length part ≡ 64 * rowsIn matrixB b
-long-part file b part e h l = rw e (length-part (64 * rowsIn matrixB b) (512 * b + 4) file (omega arith))
+  -- the rows in block b are the next of the rows
+  pub rows-part : rowsInFile layout file b ≡ tabulate (layout .rowBytes * rowsIn layout b) (from (layout .rowBytes * layout .blockRows * b) (rowByte layout file))
+  rows-part =
+      let n = layout .rowBytes * rowsIn layout b in
+      table-of (rowsInFile layout file b) n (from (layout .rowBytes * layout .blockRows * b) (rowByte layout file))
+      (length-part n (512 * b + 4) file within-file)
+      (λ k q. getD-part n (512 * b + 4) file k q ∙ sym (row-byte layout fits file b k (full layout fits b k q)))
+
+  pub long-part : (part : List ℕ) → part ≡ rowsInFile layout file b → length part ≡ layout .rowBytes * rowsIn layout b
+  long-part part e = rw e (length-part (layout .rowBytes * rowsIn layout b) (512 * b + 4) file within-file)
+
+-- and those of a set
+module _ (layout : Layout) (fits : Fits layout) (set : List ℕ) (b : ℕ) (h : length set ≡ rowsSize layout) (l : b < blockCount layout) where
+  pub within-set : layout .rowBytes * layout .blockRows * b + layout .rowBytes * rowsIn layout b ≤ length set
+  within-set = omega (arith, next-bytes layout fits b l)
+
+  pub long-set : (part : List ℕ) → part ≡ rowsInSet layout set b → length part ≡ layout .rowBytes * rowsIn layout b
+  long-set part e = rw e (length-part (layout .rowBytes * rowsIn layout b) (layout .rowBytes * layout .blockRows * b) set within-set)

@@ -5,24 +5,26 @@ use mathlib.Core.Bool.{Bool, cond, not}
 use lib.ListN.{take, drop}
 use Rattle.linear_model.specs.Tables.{every}
 use Rattle.numbers.specs.Number.{_when_, first}
-use Rattle.matrix_model.specs.Block.{blockBytes, headBytes, rowsIn}
-use Rattle.matrix_model.specs.File.{matrixB, fileBytes, rowsBytes, rows, fitRow, nonzeroRow}
+use Rattle.matrix_model.specs.Block.{Layout, blockBytes, headBytes, rowsIn}
+use Rattle.matrix_model.specs.File.{fileSize, rowsSize, rowsOf, fitRow, nonzeroRow}
 
 -- the number of the first n of these rows
-unfoldable pub rowsNumber : ℕ → List ℕ → ℕ
-rowsNumber n rows = first ((10 when not (every n (fitRow matrixB rows))) ∷ (12 when not (every n (nonzeroRow matrixB rows))) ∷ [])
+unfoldable pub rowsNumber : Layout → ℕ → List ℕ → ℕ
+rowsNumber layout n rows =
+    first ((10 when not (every n (fitRow layout rows))) ∷ (12 when not (every n (nonzeroRow layout rows))) ∷ [])
 
 -- the rows of a file, or the bytes themselves where they are the rows alone
-abbrev pub rowsHeld : Bool → List ℕ → List ℕ
-rowsHeld inBlocks s = cond inBlocks (rows s) s
+abbrev pub rowsHeld : Layout → Bool → List ℕ → List ℕ
+rowsHeld layout inBlocks s = cond inBlocks (rowsOf layout s) s
 
 -- and how many bytes they are held in
-abbrev pub heldBytes : Bool → ℕ
-heldBytes inBlocks = cond inBlocks fileBytes rowsBytes
+abbrev pub heldBytes : Layout → Bool → ℕ
+heldBytes layout inBlocks = cond inBlocks (fileSize layout) (rowsSize layout)
 
 -- the rows of block b, in a file and in a set of rows
-abbrev pub rowsInFile : List ℕ → ℕ → List ℕ
-rowsInFile file b = take (matrixB .rowBytes * rowsIn matrixB b) (drop (blockBytes * b + headBytes) file)
+abbrev pub rowsInFile : Layout → List ℕ → ℕ → List ℕ
+rowsInFile layout file b = take (layout .rowBytes * rowsIn layout b) (drop (blockBytes * b + headBytes) file)
 
-abbrev pub rowsInSet : List ℕ → ℕ → List ℕ
-rowsInSet set b = take (matrixB .rowBytes * rowsIn matrixB b) (drop (matrixB .rowBytes * (matrixB .blockRows * b)) set)
+abbrev pub rowsInSet : Layout → List ℕ → ℕ → List ℕ
+rowsInSet layout set b =
+    take (layout .rowBytes * rowsIn layout b) (drop (layout .rowBytes * layout .blockRows * b) set)

@@ -11,7 +11,7 @@ use lib.ListN.{length, take, drop, length-drop}
 use lib.Seq.{drop-drop, take-take, take-nil, length-take-le}
 use Rattle.linear_model.specs.Trits.{fitTrits}
 use Rattle.numbers.specs.Number.{first}
-use Rattle.matrix_model.specs.File.{badCheck, badLayout, badTrit, zeroRow, faults, checkNumber}
+use Rattle.matrix_model.specs.File.{badCheck, badLayout, badTrit, zeroRow, faultsOf, checkNumber}
 use Rattle.numbers.proofs.Numbers.{NoneHolds, none-holds, is-equal, is-at-least, or-left, or-right}
 use Rattle.pair_model.specs.Scheme.{side0, side1}
 use Rattle.pair_model.specs.Base.{base}
@@ -74,14 +74,14 @@ module _ (input : List ℕ) (n : ℕ) where
 
   module _ (l : length input ≡ 6528) (r : 22 ≤ n) (long : length (inputFile base input) ≡ 6144) where
     pub run-fit : (m : ℕ) → m ≡ checkNumber (inputFile base input) → fitTrits 32 256 (r0 base (inputTape base input)) ≡ true → m ≡ runNumber input n
-    unfolding first runConditions checkNumber faults
+    unfolding first runConditions checkNumber faultsOf
     run-fit m e f =
         e ∙ rw (eq-eqb (length (inputFile base input)) 6144 long, eq-eqb (length input) 6528 l, le-ltb n 22 r, f)
         (fit-tape (badCheck (inputFile base input)) (badLayout (inputFile base input)) (badTrit (inputFile base input)) (zeroRow (inputFile base input)))
 
     pub run-unfit : (m : ℕ) → m ≡ checkNumber (inputFile base input) → fitTrits 32 256 (r0 base (inputTape base input)) ≡ false
         → cond (eqb m 8) 8 (cond (eqb m 9) 9 10) ≡ runNumber input n
-    unfolding first runConditions checkNumber faults
+    unfolding first runConditions checkNumber faultsOf
     run-unfit m e f =
         unfit-tape (badCheck (inputFile base input)) (badLayout (inputFile base input)) (badTrit (inputFile base input)) (zeroRow (inputFile base input)) m
         (e ∙ rw (eq-eqb (length (inputFile base input)) 6144 long))
@@ -111,7 +111,7 @@ unfolding runConditions
 none input n = none-holds (runConditions input n) (lit< tt, (lit< tt, (lit< tt, (lit< tt, (lit< tt, (lit< tt, tt))))))
 
 pub run-fits : (input : List ℕ) (n : ℕ) → runNumber input n ≡ 0 → RunFits input n
-unfolding runConditions checkNumber faults first
+unfolding runConditions checkNumber faultsOf first
 run-fits input n e =
     let f = inputFile base input in
     let t = none input n e in

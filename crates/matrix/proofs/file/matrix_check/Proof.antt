@@ -1,19 +1,14 @@
--- `matrix::file::matrix_check` meets its contract: a file of another length is 1, and of any other the number is that of its faults.
-use mathlib.Core.Path.{_∙_}
-use native.Mathlib.Omega.{arith}
-use borrow.Author.Tests.{eq-eqb, ne-eqb}
-use Rattle.numbers.specs.Number.{first}
-use Rattle.matrix_model.specs.File.{checkNumber}
+-- `matrix::file::matrix_check` meets its contract: document 01's layout fits.
+use mathlib.Core.Path.{ap, sym, subst, _∙_}
+use Rattle.matrix_model.specs.Block.{Layout}
+use Rattle.matrix_model.specs.File.{Fits, checkNumberOf, checkNumber}
+use Rattle.matrix_model.proofs.Layouts.{matrixB-fits}
 use Rattle.matrix.proofs.file.matrix_check.Statement.{statement}
 use Rattle.matrix.proofs.file.matrix_check.Tie as tie
 
 returns : tie.Need-returns
-unfolding first checkNumber
-returns c = rw (ne-eqb _ _ (c .if1 .taken))
-
-returns-2 : tie.Need-returns-2
-unfolding first checkNumber
-returns-2 c = c .file-number .ensures ∙ rw (eq-eqb _ _ (c .before .if1 .left))
+unfolding checkNumber
+returns c = c .check-of .ensures ∙ ap (λ (l : Layout). checkNumberOf l (c .before .before .before .args .file .now)) (c .before .matrix-b .ensures)
 
 pub matrix-check-spec : {M : Type 1} → statement M
-matrix-check-spec = tie.close (tie.spec returns (λ c κs. omega arith) returns-2)
+matrix-check-spec = tie.close (tie.spec (λ c κs. tt) (λ c κs. subst Fits (sym (c .matrix-b .ensures)) matrixB-fits) returns)

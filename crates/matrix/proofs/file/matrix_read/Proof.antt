@@ -1,43 +1,31 @@
--- `matrix::file::matrix_read` meets its contract: a refusal leaves the slice, and what is written restores the file.
-use mathlib.Core.Path.{refl, sym, ap, _∙_}
-use native.Mathlib.Omega.{arith}
+-- `matrix::file::matrix_read` meets its contract: document 01's layout fits.
+use mathlib.Core.Path.{_≡_, sym, subst}
+use mathlib.Core.List.{List}
+use Prim.Native.Nat.{ℕ}
+use lib.ListN.{length, take}
 use borrow.Author.Needs.{needs}
-use lib.ListN.{take}
-use lib.Seq.{take-at}
-use Rattle.numbers.proofs.Outputs.{refusal, success}
-use Rattle.matrix_model.specs.File.{rowsBytes, rows, Fit}
-use Rattle.matrix_model.proofs.Rows.{length-rows}
-use Rattle.matrix_model.proofs.RoundTrip.{fit-length, fit-file}
-use Rattle.matrix_model.proofs.Internal.Reading.{short-read, checked-read}
+use Rattle.matrix_model.specs.Block.{Layout}
+use Rattle.matrix_model.specs.File.{Fits, rowsSize, readNumberOf, readOutputOf, RestoresOf, matrixB, rowsBytes, readNumber, readOutput, Restores}
+use Rattle.matrix_model.proofs.Layouts.{matrixB-fits}
+use Rattle.matrix_blocks.specs.Layouts.{layoutOf}
 use Rattle.matrix.proofs.file.matrix_read.Statement.{statement}
 use Rattle.matrix.proofs.file.matrix_read.Tie as tie
 
--- a file that is read is fit
-fit : (c : tie.Else2) → Fit (c .before .before .before .before .before .args .file .now)
-fit c = sym (c .before .matrix-check .ensures) ∙ c .if2 .left
+-- what holds of a layout that is document 01's
+of-document : (l : Layout) → l ≡ matrixB → (s old : List ℕ) {r : ℕ} {new : List ℕ}
+    → (r ≡ readNumberOf l s (length old)) × ((new ≡ readOutputOf l s old) × (r ≡ 0 → RestoresOf l (take (rowsSize l) new) s))
+    → (r ≡ readNumber s (length old)) × ((new ≡ readOutput s old) × (r ≡ 0 → Restores (take rowsBytes new) s))
+unfolding readNumber
+of-document l e s old {r} {new} h =
+    subst (λ (l : Layout). (r ≡ readNumberOf l s (length old)) × ((new ≡ readOutputOf l s old) × (r ≡ 0 → RestoresOf l (take (rowsSize l) new) s))) e h
 
 returns : tie.Need-returns
-returns c = refusal _ _ (short-read _ _ (c .if1 .taken)) (λ z. omega arith)
-
-returns-2 : tie.Need-returns-2
-returns-2 c = refusal _ _ (c .before .matrix-check .ensures ∙ checked-read _ _ (c .before .before .if1 .left)) (c .if2 .taken)
-
-returns-3 : tie.Need-returns-3
-returns-3 c =
-    let e = c .before .before .write-rows .ensures in
-    let d = c .before .before .before .before in
-    let a = d .before .before .before .before .before .args in
-    let file = a .file .now in
-    success (rows file) (a .out .now) (sym (fit d) ∙ checked-read _ _ (d .before .before .if1 .left)) refl (rw (length-rows file) e)
-    (rw (ap (take rowsBytes) e ∙ take-at (rows file) _ rowsBytes (length-rows file)) (fit-file file (fit d)))
+returns c =
+    let call = c .before .before in
+    let b = call .before .before in
+    let a = b .before .before .before .args in
+    of-document (layoutOf (b .matrix-b .result)) (b .matrix-b .ensures) (a .file .now) (a .out .now) (call .read-of .ensures)
 
 pub matrix-read-spec : {M : Type 1} → statement M
 matrix-read-spec =
-    tie.close
-    (tie.spec
-    returns
-    (λ c κs. omega arith)
-    returns-2
-    (λ c κs. (fit-length _ (fit (c .before)), omega arith))
-    (λ c. search needs)
-    returns-3)
+    tie.close (tie.spec (λ c κs. tt) (λ c κs. subst Fits (sym (c .before .matrix-b .ensures)) matrixB-fits) (λ c. search needs) returns)

@@ -1,62 +1,91 @@
 -- `matrix_rows::rows::all_rows_number` meets its contract. The invariant of its loop: the number is that of the rows before block b, which are fit.
 use mathlib.Core.Path.{_≡_}
 use mathlib.Core.Logic.{⊎-elim}
-use Prim.Native.Nat.{_+_, _-_, _*_, _≤_, min}
+use Prim.Native.Nat.{_+_, _-_, _*_, _<_, _≤_, min}
 use native.Mathlib.Omega.{arith}
 use Rattle.numbers.specs.Number.{first}
-use Rattle.matrix_model.specs.Block.{rowsIn}
-use Rattle.matrix_model.specs.File.{matrixB, badTritRows, zeroRowRows, rowFaults}
+use Rattle.matrix_model.specs.File.{blockCount, badTritOf, zeroRowOf, rowFaultsOf}
 use Rattle.matrix_model.specs.Internal.Rows.{rowsNumber, rowsHeld}
-use Rattle.matrix_model.proofs.Internal.RowNumbers.{Among, among-part, length-held, Judging, judging-none, judging-all, judging-found, judging-kept, judging-unfit}
+use Rattle.matrix_model.proofs.Layouts.{started, covered, next-rows}
+use Rattle.matrix_model.proofs.Internal.RowNumbers.{Among, among-block, length-held, Judging, judging-none, judging-all, judging-found, judging-kept, judging-unfit}
+use Rattle.matrix_blocks.specs.Layouts.{layoutOf}
 use Rattle.matrix_rows.proofs.rows.all_rows_number.Statement.{statement}
 use Rattle.matrix_rows.proofs.rows.all_rows_number.Tie as tie
 
 abbrev Inv-loop : tie.InvT-loop
-Inv-loop s in-blocks number₀ b₀ number b = (b ≤ 12) × Judging (rowsHeld in-blocks s) (min (7 * b) 81) number
+Inv-loop layout s in-blocks blocks number₀ b₀ number b =
+    (b ≤ blocks) × Judging (layoutOf layout) (rowsHeld (layoutOf layout) in-blocks s) (min (layoutOf layout .blockRows * b) (layoutOf layout .rowCount)) number
 
 abbrev μ-loop : tie.MeasureT-loop
-μ-loop s in-blocks number₀ b₀ number b = 12 - b
+μ-loop layout s in-blocks blocks number₀ b₀ number b = blocks - b
+
+loop-holds : tie.Need-loop-holds Inv-loop μ-loop
+loop-holds c =
+    let layout = layoutOf (c .before .before .args .layout) in
+    let e : min (layout .blockRows * 0) (layout .rowCount) ≡ 0 = omega arith in
+    (omega arith, rw e judging-none)
+
+-- b is a block
+inside : (c : tie.In-loop Inv-loop μ-loop) → c .before .loop .b < blockCount (layoutOf (c .before .before .before .before .args .layout))
+inside c = omega (arith, c .before .before .block-count .ensures)
 
 -- the rows that are looked at, after those of the blocks before
 block : (c : tie.After-rows-in Inv-loop μ-loop)
     → (let l = c .before .before .before in
-    let a = l .before .before .args in
-    Among (rowsHeld (a .in-blocks) (a .s .now)) (7 * l .loop .b) (c .rows-in .result) (c .before .rows-at .result .now))
+    let a = l .before .before .before .args in
+    Among (layoutOf (a .layout)) (rowsHeld (layoutOf (a .layout)) (a .in-blocks) (a .s .now)) (layoutOf (a .layout) .blockRows * l .loop .b) (c .rows-in .result) (c .before .rows-at .result .now))
 block c =
     let l = c .before .before .before in
-    let a = l .before .before in
+    let a = l .before .before .before in
+    let layout = layoutOf (a .args .layout) in
     rw (c .rows-in .ensures)
-    (among-part (7 * l .loop .b) (rowsIn matrixB (l .loop .b)) (omega (arith, length-held (a .args .in-blocks) (a .args .s .now) (a .pre))) (c .before .rows-at .ensures))
+    (among-block layout (a .pre .0) (l .loop .b) (length-held layout (a .args .in-blocks) (a .args .s .now) (a .pre .1)) (inside (c .before .before)) (c .before .rows-at .ensures))
 
 before : (c : tie.After-rows-in Inv-loop μ-loop)
     → (let l = c .before .before .before in
-    let a = l .before .before .args in
-    Judging (rowsHeld (a .in-blocks) (a .s .now)) (7 * l .loop .b) (l .loop .number))
+    let a = l .before .before .before .args in
+    Judging (layoutOf (a .layout)) (rowsHeld (layoutOf (a .layout)) (a .in-blocks) (a .s .now)) (layoutOf (a .layout) .blockRows * l .loop .b) (l .loop .number))
 before c =
     let l = c .before .before .before in
-    let e : min (7 * l .loop .b) 81 ≡ 7 * l .loop .b = omega arith in
+    let a = l .before .before .before in
+    let layout = layoutOf (a .args .layout) in
+    let e : min (layout .blockRows * l .loop .b) (layout .rowCount) ≡ layout .blockRows * l .loop .b = omega (arith, started layout (a .pre .0) (l .loop .b) (inside (c .before .before))) in
     rw e at (l .loop .inv .1)
 
+-- the rows before the next block
+next : (c : tie.After-rows-in Inv-loop μ-loop)
+    → (let l = c .before .before .before in
+    let layout = layoutOf (l .before .before .before .args .layout) in
+    min (layout .blockRows * (l .loop .b + 1)) (layout .rowCount) ≡ layout .blockRows * l .loop .b + c .rows-in .result)
+next c =
+    let l = c .before .before .before in
+    let a = l .before .before .before in
+    omega (arith, c .rows-in .ensures, next-rows (layoutOf (a .args .layout)) (a .pre .0) (l .loop .b) (inside (c .before .before)))
+
 returns : tie.Need-returns Inv-loop μ-loop
-unfolding first rowFaults badTritRows zeroRowRows rowsNumber
+unfolding first rowFaultsOf badTritOf zeroRowOf rowsNumber
 returns c =
     let r = c .before .before in
-    judging-unfit (block r) (before r) (c .before .rows-number .ensures) 81 (omega arith) (c .if1 .taken)
+    judging-unfit (r .before .before .before .before .before .before .pre .0) (block r) (before r) (c .before .rows-number .ensures) _ (omega (arith, next r)) (c .if1 .taken)
 
 loop-again : tie.Need-loop-again Inv-loop μ-loop
 loop-again c =
     let f = c .before .before in
     let r = f .before in
-    let b = r .before .before .before .loop .b in
-    let e : min (7 * (b + 1)) 81 ≡ 7 * b + r .rows-in .result = omega arith in (
+    let fits = r .before .before .before .before .before .before .pre .0 in (
       omega arith,
-      rw e (⊎-elim (λ w. judging-found (block r) (before r) (f .rows-number .ensures) (w .1) (c .before .if1 .left) (w .0 .taken))
-          (λ w. judging-kept (block r) (before r) (f .rows-number .ensures) (w .1) (c .before .if1 .left) (w .0 .left)) (c .if2 .came)),
+      rw (next r) (⊎-elim (λ w. judging-found fits (block r) (before r) (f .rows-number .ensures) (w .1) (c .before .if1 .left) (w .0 .taken))
+          (λ w. judging-kept fits (block r) (before r) (f .rows-number .ensures) (w .1) (c .before .if1 .left) (w .0 .left)) (c .if2 .came)),
     )
 
 returns-2 : tie.Need-returns-2 Inv-loop μ-loop
-unfolding first rowFaults badTritRows zeroRowRows rowsNumber
-returns-2 c = judging-all 81 (c .before .loop .inv .1) (omega arith)
+unfolding first rowFaultsOf badTritOf zeroRowOf rowsNumber
+returns-2 c =
+    let l = c .before in
+    let a = l .before .before .before in
+    let layout = layoutOf (a .args .layout) in
+    let e : l .loop .b ≡ blockCount layout = omega (arith, l .before .block-count .ensures) in
+    judging-all (layout .rowCount) (l .loop .inv .1) (rw e (omega (arith, covered layout (a .pre .0))))
 
 pub all-rows-number-spec : {M : Type 1} → statement M
 all-rows-number-spec =
@@ -64,10 +93,11 @@ all-rows-number-spec =
     (tie.spec
     Inv-loop
     μ-loop
-    (λ c. (omega arith, judging-none))
-    (λ c κs. (c .before .before .before .pre, omega arith))
-    (λ c κs. omega arith)
-    (λ c κs. block c .long)
+    (λ c κs. c .before .pre .0)
+    loop-holds
+    (λ c κs. (c .before .before .before .before .pre .0, c .before .before .before .before .pre .1, inside c))
+    (λ c κs. (c .before .before .before .before .before .pre .0, inside (c .before)))
+    (λ c κs. (c .before .before .before .before .before .before .pre .0, block c .long))
     returns
     (λ c. omega arith)
     (λ c. omega arith)

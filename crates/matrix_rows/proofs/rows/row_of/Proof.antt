@@ -7,8 +7,8 @@ use Rattle.matrix_rows.proofs.rows.row_of.Tie as tie
 
 returns : tie.Need-returns
 returns c =
-    let at = 64 * c .before .args .i in
-    let e : at + 64 - at ≡ 64 = omega arith in
+    let a = c .before .args in
+    let e : a .n * a .i + a .n - a .n * a .i ≡ a .n = omega arith in
     rw e
 
 pub row-of-spec : {M : Type 1} → statement M
