@@ -3,11 +3,12 @@ use Prim.Native.Nat.{ℕ, zero, suc, _≤_}
 use mathlib.Core.Path.{_≡_, refl}
 use mathlib.Core.Logic.{inl, inr, ⊎-elim}
 use mathlib.Core.List.{List, [], _∷_, _++_}
-use mathlib.Core.Bool.{Bool, true, false}
+use mathlib.Core.Bool.{Bool, true, false, cond}
 use native.Mathlib.Omega.{arith}
 use native.Mathlib.Nat.{le-refl, suc-ne-zero}
-use lib.Dec.{T}
-use Rattle.numbers.specs.Number.{Condition, _when_, first, onlyIf}
+use lib.Dec.{ltb, ltb→lt}
+use Rattle.numbers.specs.Number.{Condition, _when_, first, insert, merge}
+use Rattle.numbers.proofs.Numbers.{holds as is-set, is-at-least}
 use Rattle.numbers.specs.Lowest.{Holds, Lowest, RisingFrom, Rising}
 
 -- ---- lists that rise
@@ -22,14 +23,22 @@ pub rising-end : (n : ℕ) (cs : List Condition) → RisingFrom n cs → RisingF
 rising-end n [] r = tt
 rising-end n (number when b ∷ cs) r = (r .0, rising-end number cs (r .1))
 
--- of two lists that are never both read, each of which rises
-pub rising-either : (n : ℕ) (a b : Bool) (k l : List Condition) → (T a → T b → ⊥) → RisingFrom n k → RisingFrom n l
-    → RisingFrom n (onlyIf a k ++ onlyIf b l)
-unfolding onlyIf
-rising-either n true true k l h r s = absurd (h tt tt)
-rising-either n true false k l h r s = rising-end n k r
-rising-either n false true k l h r s = s
-rising-either n false false k l h r s = tt
+-- a condition put among others
+rising-insert : (n number : ℕ) (b : Bool) (cs : List Condition) → n ≤ number → RisingFrom n cs → RisingFrom n (insert (number when b) cs)
+unfolding insert
+rising-insert n number b [] h r = (h, tt)
+rising-insert n number b (other when c ∷ cs) h r = pick (ltb other number) refl (λ l. rising-insert other number b cs l (r .1))
+  where
+    pick : (d : Bool) → ltb other number ≡ d → (other ≤ number → RisingFrom other (insert (number when b) cs))
+        → RisingFrom n (cond d (other when c ∷ insert (number when b) cs) (number when b ∷ other when c ∷ cs))
+    pick true e s = (r .0, s (omega (arith, ltb→lt other number (is-set (ltb other number) e))))
+    pick false e s = (h, (is-at-least other number e, r .1))
+
+-- and two lists that rise as one
+pub rising-merge : (n : ℕ) (k l : List Condition) → RisingFrom n k → RisingFrom n l → RisingFrom n (merge k l)
+unfolding merge
+rising-merge n [] l r s = s
+rising-merge n (number when b ∷ k) l r s = rising-insert n number b (merge k l) (r .0) (rising-merge n k l (rising-from n number k (r .0) (r .1)) s)
 
 -- ---- the lowest number
 

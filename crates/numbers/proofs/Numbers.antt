@@ -6,7 +6,7 @@ use mathlib.Core.Bool.{Bool, true, false, cond, not, _||_}
 use native.Mathlib.Omega.{arith}
 use lib.Dec.{T, ltb, eqb, eqb-refl, eqb→eq, nltb→le}
 use lib.Arith.{le→nltb}
-use Rattle.numbers.specs.Number.{Condition, _when_, first}
+use Rattle.numbers.specs.Number.{Condition, _when_, first, insert, merge}
 
 -- ---- tests
 
@@ -117,3 +117,35 @@ first-after (number when false ∷ k) l p e = first-after k l (p .1) e
 pub none-before : (k l : List Condition) → Positive k → first (k ++ l) ≡ 0 → NoneHolds k
 none-before [] l p e = tt
 none-before (number when b ∷ k) l p e = let h = first-none number b (k ++ l) (p .0) e in (h .0, none-before k l (p .1) (h .1))
+
+-- ---- two lists as one
+
+-- a condition that does not hold makes no difference
+first-insert : (number : ℕ) (b : Bool) (cs : List Condition) → b ≡ false → first (insert (number when b) cs) ≡ first cs
+unfolding first insert
+first-insert number b [] e = first-pass number b [] e
+first-insert number b (other when c ∷ cs) e = pick (ltb other number) (first-insert number b cs e)
+  where
+    pick : (d : Bool) → first (insert (number when b) cs) ≡ first cs
+        → first (cond d (other when c ∷ insert (number when b) cs) (number when b ∷ other when c ∷ cs)) ≡ first (other when c ∷ cs)
+    pick true r = ap (cond c other) r
+    pick false r = first-pass number b (other when c ∷ cs) e
+
+-- so where none of the first list holds, the second decides
+pub first-merge : (k l : List Condition) → NoneHolds k → first (merge k l) ≡ first l
+unfolding merge
+first-merge [] l h = refl
+first-merge (number when b ∷ k) l h = first-insert number b (merge k l) (h .0) ∙ first-merge k l (h .1)
+
+-- number 0 comes before all others
+zero-first : (cs : List Condition) → first (insert (0 when true) cs) ≡ 0
+unfolding first insert
+zero-first [] = refl
+zero-first (other when c ∷ cs) = rw (at-least other 0 (omega arith))
+
+-- where both give 0, so do they as one
+pub merge-none : (k l : List Condition) → first k ≡ 0 → first l ≡ 0 → first (merge k l) ≡ 0
+unfolding first merge
+merge-none [] l e h = h
+merge-none (number when true ∷ k) l e h = rw e (zero-first (merge k l))
+merge-none (number when false ∷ k) l e h = first-insert number false (merge k l) refl ∙ merge-none k l e h

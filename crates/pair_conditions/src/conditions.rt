@@ -1,12 +1,13 @@
 // The number of a step: the lengths decide first, then the header and what the unit waits for, then what the frame brings.
 // No half and nothing of a deal is read but its r.
 ghost use mathlib.Core.Path.{_≡_};
-ghost use mathlib.Core.Bool.{true};
+ghost use lib.Dec.{eqb};
 ghost use lib.ListN.{length};
 ghost use Rattle.numbers.specs.Number.{first};
+ghost use Rattle.pair_model.specs.Scheme.{files};
 ghost use Rattle.pair_model.specs.Base.{base};
-ghost use Rattle.pair_model.specs.Frame.{parameters, kindOf, frameBytes};
-ghost use Rattle.pair_model.specs.Unit.{readsFile, expectedSide, lengthConditions, headerConditions, contentConditions, stepNumber};
+ghost use Rattle.pair_model.specs.Frame.{parameters, maskKind, kindOf, frameBytes};
+ghost use Rattle.pair_model.specs.Unit.{expectedSide, lengthConditions, headerConditions, contentConditions, stepNumber};
 use linear::trits::trits_fit;
 use matrix::file::matrix_check;
 use numbers::table::DONE;
@@ -27,7 +28,7 @@ use pair_frames::sizes::OPEN_FRAME_BYTES;
 
 // Whether the step reads the file: the frame has a first byte and it is 3.
 fn reads_file(f: &[u8]) -> bool
-    ensures { λ r. ⌜ r ≡ readsFile base (now (f .entry)) ⌝ }
+    ensures { λ r. ⌜ r ≡ eqb (kindOf (now (f .entry))) maskKind ⌝ }
 {
     if f.len() == 0 {
         return false;
@@ -47,7 +48,7 @@ fn expected_side(kind: u8, side: u8) -> u8
 
 // The number as far as lengths decide it.
 fn length_number(f: &[u8], file: &[u8], room: usize) -> u32
-    ensures { λ r. ⌜ r ≡ first (lengthConditions base (now (f .entry)) (now (file .entry)) room) ⌝ }
+    ensures { λ r. ⌜ r ≡ first (lengthConditions base (now (f .entry)) (files (now (file .entry))) room) ⌝ }
 {
     if room < OPEN_FRAME_BYTES {
         return WRONG_LENGTH;
@@ -86,8 +87,8 @@ fn frame_number(side: u8, session: u32, stage: u8, f: &[u8]) -> u32
 
 // The number as far as what the frame brings decides it: the file that is read, or the trits of a deal.
 fn content_number(f: &[u8], file: &[u8]) -> u32
-    requires { ⌜ (length (now f) ≡ frameBytes base (kindOf (now f))) × (readsFile base (now f) ≡ true → length (now file) ≡ base .fileBytes) ⌝ }
-    ensures { λ r. ⌜ r ≡ first (contentConditions base (now (f .entry)) (now (file .entry))) ⌝ }
+    requires { ⌜ (length (now f) ≡ frameBytes base (kindOf (now f))) × (kindOf (now f) ≡ maskKind → length (now file) ≡ base .rowsReading .bytes) ⌝ }
+    ensures { λ r. ⌜ r ≡ first (contentConditions base (now (f .entry)) (files (now (file .entry)))) ⌝ }
 {
     if reads_file(f) {
         return matrix_check(file);
@@ -104,7 +105,7 @@ fn content_number(f: &[u8], file: &[u8]) -> u32
 
 // The number of a step of a unit of this side, session and stage.
 pub fn step_number(side: u8, session: u32, stage: u8, f: &[u8], file: &[u8], room: usize) -> u32
-    ensures { λ r. ⌜ r ≡ stepNumber base (parameters side session) stage (now (f .entry)) (now (file .entry)) room ⌝ }
+    ensures { λ r. ⌜ r ≡ stepNumber base (parameters side session) stage (now (f .entry)) (files (now (file .entry))) room ⌝ }
 {
     let of_lengths = length_number(f, file, room);
     if of_lengths != DONE {

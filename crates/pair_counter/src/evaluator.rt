@@ -4,6 +4,7 @@ ghost use lib.ListN.{length};
 ghost use Rattle.linear_model.specs.Trits.{bitTrits};
 ghost use Rattle.linear_model.specs.Products.{circulantProduct};
 ghost use Rattle.numbers.specs.Number.{output};
+ghost use Rattle.pair_model.specs.Scheme.{files};
 ghost use Rattle.pair_model.specs.Base.{base};
 ghost use Rattle.pair_model.specs.Evaluator.{code, evaluateNumber};
 use linear_words::bytes::put;
@@ -30,10 +31,10 @@ fn inner_vector(key: &[u8], label: &[u8]) -> [u8; TRITS_BYTES]
 
 // The code of a key and a label: B × (K × label modulo 2) modulo 3.
 pub fn evaluate(key: &[u8], label: &[u8], file: &[u8], out: &mut [u8]) -> u32
-    ensures result { λ r. ⌜ r ≡ evaluateNumber base (now (key .entry)) (now (label .entry)) (now (file .entry)) (length (now (out .entry))) ⌝ }
+    ensures result { λ r. ⌜ r ≡ evaluateNumber base (now (key .entry)) (now (label .entry)) (files (now (file .entry))) (length (now (out .entry))) ⌝ }
     ensures output { λ r. ⌜
         now (out .exit) ≡
-        output r (code base (now (key .entry)) (now (label .entry)) (now (file .entry))) (now (out .entry))
+        output r (code base (now (key .entry)) (now (label .entry)) (files (now (file .entry)))) (now (out .entry))
         ⌝ }
 {
     if key.len() != KEY_BYTES {

@@ -1,13 +1,13 @@
 // The dealer: both deal frames, of a tape or of source bytes. No branch depends on a tape's bytes but the test of r0.
 ghost use mathlib.Core.Path.{_≡_};
-ghost use mathlib.Core.List.{[], _++_};
+ghost use mathlib.Core.List.{_++_};
 ghost use Prim.Native.Nat.{_≤_};
 ghost use lib.ListN.{length, drop};
 ghost use Rattle.numbers.specs.Number.{output, reported};
-ghost use Rattle.pair_model.specs.Scheme.{side0, side1};
+ghost use Rattle.pair_model.specs.Scheme.{noFiles, side0, side1};
 ghost use Rattle.pair_model.specs.Base.{base};
 ghost use Rattle.pair_model.specs.Tape.{tapeBytes, z, r};
-ghost use Rattle.pair_model.specs.Frame.{dealKind, frameBytes};
+ghost use Rattle.pair_model.specs.Frame.{sharedParameters, dealKind, frameBytes};
 ghost use Rattle.pair_model.specs.Sampler.{sampled, used};
 ghost use Rattle.pair_model.specs.Dealer.{dealFrame, dealt, dealtBytes, dealNumber, dealSourceNumber, TakesAccepted};
 ghost use Rattle.pair_model.specs.Run.{protocol};
@@ -40,7 +40,7 @@ use pair_sampler::sampler::sample;
 
 // The number of a deal.
 fn deal_number(tape: &[u8], room: usize) -> u32
-    ensures { λ n. ⌜ n ≡ dealNumber base (now (tape .entry)) room ⌝ }
+    ensures { λ n. ⌜ n ≡ dealNumber base noFiles (now (tape .entry)) room ⌝ }
 {
     if tape.len() != TAPE_BYTES {
         return WRONG_LENGTH;
@@ -58,7 +58,7 @@ fn deal_number(tape: &[u8], room: usize) -> u32
 // z1 = z0 + K̃ × x̃ + w̃ modulo 2.
 fn second_z(tape: &[u8]) -> [u8; INNER_BYTES]
     requires { ⌜ length (now tape) ≡ tapeBytes base ⌝ }
-    ensures { λ s. ⌜ s ≡ z base [] (now (tape .entry)) side1 ⌝ }
+    ensures { λ s. ⌜ s ≡ z base noFiles (now (tape .entry)) side1 ⌝ }
 {
     let key_mask = sum_32(
         array_32(tape, TAPE_KEY_MASK_0),
@@ -92,7 +92,7 @@ fn second_r(tape: &[u8]) -> [u8; TRITS_BYTES]
 // Writes unit 0's deal frame: K̃0, x̃0, z0, r0.
 fn write_first(session: u32, tape: &[u8], out: &mut [u8])
     requires { ⌜ (length (now tape) ≡ tapeBytes base) × (frameBytes base dealKind ≤ length (now out)) ⌝ }
-    ensures { λ _. ⌜ now (out .exit) ≡ dealFrame base session [] (now (tape .entry)) side0 ++ drop (frameBytes base dealKind) (now (out .entry)) ⌝ }
+    ensures { λ _. ⌜ now (out .exit) ≡ dealFrame base (sharedParameters session) noFiles (now (tape .entry)) side0 ++ drop (frameBytes base dealKind) (now (out .entry)) ⌝ }
 {
     let body = deal_body(
         &tape[TAPE_KEY_MASK_0..TAPE_KEY_MASK_1],
@@ -106,7 +106,7 @@ fn write_first(session: u32, tape: &[u8], out: &mut [u8])
 // Writes unit 1's deal frame: K̃1, x̃1, z1, r1.
 fn write_second(session: u32, tape: &[u8], out: &mut [u8])
     requires { ⌜ (length (now tape) ≡ tapeBytes base) × (frameBytes base dealKind ≤ length (now out)) ⌝ }
-    ensures { λ _. ⌜ now (out .exit) ≡ dealFrame base session [] (now (tape .entry)) side1 ++ drop (frameBytes base dealKind) (now (out .entry)) ⌝ }
+    ensures { λ _. ⌜ now (out .exit) ≡ dealFrame base (sharedParameters session) noFiles (now (tape .entry)) side1 ++ drop (frameBytes base dealKind) (now (out .entry)) ⌝ }
 {
     let z = second_z(tape);
     let r = second_r(tape);
@@ -122,7 +122,7 @@ fn write_second(session: u32, tape: &[u8], out: &mut [u8])
 // Writes both deal frames, unit 0's first.
 fn write_deal(session: u32, tape: &[u8], out: &mut [u8])
     requires { ⌜ (length (now tape) ≡ tapeBytes base) × (dealtBytes base ≤ length (now out)) ⌝ }
-    ensures { λ _. ⌜ now (out .exit) ≡ output 0 (dealt base session [] (now (tape .entry))) (now (out .entry)) ⌝ }
+    ensures { λ _. ⌜ now (out .exit) ≡ output 0 (dealt base (sharedParameters session) noFiles (now (tape .entry))) (now (out .entry)) ⌝ }
 {
     write_first(session, tape, out);
     write_second(session, tape, &mut out[DEAL_FRAME_BYTES..]);
@@ -131,8 +131,8 @@ fn write_deal(session: u32, tape: &[u8], out: &mut [u8])
 // Deals a tape: the accepted ones and no other. Its frames stand in the views that `Privacy` speaks of, one pairing of accepted tapes
 // for all lists.
 pub fn deal(session: u32, tape: &[u8], out: &mut [u8]) -> u32
-    ensures result { λ n. ⌜ n ≡ dealNumber base (now (tape .entry)) (length (now (out .entry))) ⌝ }
-    ensures output { λ n. ⌜ now (out .exit) ≡ output n (dealt base session [] (now (tape .entry))) (now (out .entry)) ⌝ }
+    ensures result { λ n. ⌜ n ≡ dealNumber base noFiles (now (tape .entry)) (length (now (out .entry))) ⌝ }
+    ensures output { λ n. ⌜ now (out .exit) ≡ output n (dealt base (sharedParameters session) noFiles (now (tape .entry))) (now (out .entry)) ⌝ }
     ensures accepted_tapes { λ _. ⌜ TakesAccepted base ⌝ }
     ensures privacy { λ _. ⌜ Privacy (protocol base) ⌝ }
 {
@@ -162,9 +162,9 @@ fn refused(number: u32) -> Dealt
 
 // Deals the tape that the sampler makes of source bytes.
 pub fn deal_source(session: u32, source: &[u8], out: &mut [u8]) -> Dealt
-    ensures result { λ d. ⌜ d .result ≡ dealSourceNumber base (now (source .entry)) (length (now (out .entry))) ⌝ }
+    ensures result { λ d. ⌜ d .result ≡ dealSourceNumber base noFiles (now (source .entry)) (length (now (out .entry))) ⌝ }
     ensures count { λ d. ⌜ d .used ≡ reported (d .result) (used base (now (source .entry))) ⌝ }
-    ensures output { λ d. ⌜ now (out .exit) ≡ output (d .result) (dealt base session [] (sampled base (now (source .entry)))) (now (out .entry)) ⌝ }
+    ensures output { λ d. ⌜ now (out .exit) ≡ output (d .result) (dealt base (sharedParameters session) noFiles (sampled base (now (source .entry)))) (now (out .entry)) ⌝ }
     ensures privacy { λ _. ⌜ Privacy (protocol base) ⌝ }
 {
     if out.len() < DEALT_BYTES {

@@ -1,14 +1,14 @@
 -- Lists of C calls: the states of both units stand in slices, and `pair_begin` and `pair_step` are called on these.
-use Prim.Native.Nat.{ℕ, _-_, _<_, _^_}
+use Prim.Native.Nat.{ℕ, _-_, _<_}
 use mathlib.Core.Path.{_≡_}
 use mathlib.Core.List.{List, [], _∷_, _++_}
 use mathlib.Core.Bool.{cond}
 use lib.Dec.{eqb}
 use lib.ListN.{length, getD}
 use Rattle.linear_model.specs.Bits.{Bytes}
-use Rattle.pair_model.specs.Scheme.{Scheme, Side, sideByte}
+use Rattle.pair_model.specs.Scheme.{Files, Scheme, Side}
 use Rattle.pair_model.specs.Tape.{Accepted}
-use Rattle.pair_model.specs.Frame.{kindOf}
+use Rattle.pair_model.specs.Frame.{Parameters, parametersOf, FitsHeader, kindOf}
 use Rattle.pair_model.specs.Unit.{State, begin, step}
 use Rattle.pair_model.specs.Run.{Protocol, protocol, Inputs, WellFormed, Run, Configuration, Delivery, asSent, stray, Entry, update, start, framesFor, next, final}
 use Rattle.pair_model.specs.View.{Event, eventOf}
@@ -42,11 +42,12 @@ module _ (S : Scheme) where
   -- what calls give fits its slice, and reads back
   pub record StatesFit : Type 0 where
     -- after a beginning with bytes, refused or not
-    pub begins : (side session : ℕ) (key label : List ℕ) → session < 2 ^ 32 → AreBytes key → AreBytes label
-        → Sized S (begin S side session key label .next)
+    pub begins : (t : Parameters) (key label : List ℕ) → FitsHeader (t .shared) → AreBytes key → AreBytes label
+        → Sized S (begin S t key label .next)
     -- after a step on any frame of bytes; and what it writes are bytes
-    pub steps : (u : State) (f file : List ℕ) (outputLength : ℕ) → Sized S u → AreBytes f → Sized S (step S u f file outputLength .next)
-    pub writes : (u : State) (f file : List ℕ) (outputLength : ℕ) → Sized S u → AreBytes f → AreBytes (step S u f file outputLength .written)
+    pub steps : (u : State) (f : List ℕ) (lent : Files) (outputLength : ℕ) → Sized S u → AreBytes f → Sized S (step S u f lent outputLength .next)
+    pub writes : (u : State) (f : List ℕ) (lent : Files) (outputLength : ℕ) → Sized S u → AreBytes f
+        → AreBytes (step S u f lent outputLength .written)
     -- in a slice, and read back from it
     pub encoded : (u : State) → Sized S u → Bytes (stateBytes S) (encodeState u)
     pub readBack : (u : State) → Sized S u → decodeState S (encodeState u) ≡ u
@@ -63,7 +64,7 @@ module _ (S : Scheme) where
   abbrev pub begunSlices : Inputs → (Side → List ℕ) → Slices
   begunSlices a before =
       record {
-        state = λ i. pairBeginState S (sideByte i) (a .session) (a .key i) (a .label i) (before i);
+        state = λ i. pairBeginState S (parametersOf i (a .shared)) (a .key i) (a .label i) (before i);
         sent = λ i. [];
       }
 
@@ -74,15 +75,15 @@ module _ (S : Scheme) where
 
   -- what one call of `pair_step` returns
   abbrev pub callNumber : Run → Slices → Entry → ℕ
-  callNumber run c e = pairStepNumber S (c .state (e .side)) (handedIn run c (e .side) (e .delivery)) (e .file) (e .outputLength)
+  callNumber run c e = pairStepNumber S (c .state (e .side)) (handedIn run c (e .side) (e .delivery)) (e .files) (e .outputLength)
 
   -- what it writes
   abbrev pub callWritten : Run → Slices → Entry → List ℕ
-  callWritten run c e = pairStepWritten S (c .state (e .side)) (handedIn run c (e .side) (e .delivery)) (e .file) (e .outputLength)
+  callWritten run c e = pairStepWritten S (c .state (e .side)) (handedIn run c (e .side) (e .delivery)) (e .files) (e .outputLength)
 
   -- its slice afterwards
   abbrev pub callState : Run → Slices → Entry → List ℕ
-  callState run c e = pairStepState S (c .state (e .side)) (handedIn run c (e .side) (e .delivery)) (e .file) (e .outputLength)
+  callState run c e = pairStepState S (c .state (e .side)) (handedIn run c (e .side) (e .delivery)) (e .files) (e .outputLength)
 
   -- both slices after a call
   unfoldable pub afterCall : Run → Slices → Entry → Slices
@@ -105,7 +106,7 @@ module _ (S : Scheme) where
   callEvent run c e =
       record {
         frame = handedIn run c (e .side) (e .delivery);
-        file = e .file;
+        files = e .files;
         result = callNumber run c e;
         written = callWritten run c e;
         after = decodeState S (callState run c e);
@@ -119,7 +120,7 @@ module _ (S : Scheme) where
   -- both beginnings, and after them every list of calls
   pub record RunByCalls (run : Run) (before : Side → List ℕ) : Type 0 where
     pub begins : (i : Side)
-        → pairBeginNumber S (sideByte i) (run .inputs .key i) (run .inputs .label i) (before i) ≡ P .beginning (run .inputs) i .result
+        → pairBeginNumber S (parametersOf i (run .inputs .shared)) (run .inputs .key i) (run .inputs .label i) (before i) ≡ P .beginning (run .inputs) i .result
     pub events : (es : List Entry) → StrayBytes es → SameEvents run (begunSlices (run .inputs) before) (start P run) es
     pub after : (es : List Entry) → StrayBytes es
         → decoded (afterCalls run (begunSlices (run .inputs) before) es) ≡ final P run (start P run) es

@@ -1,9 +1,9 @@
 -- Frames: the header and all lengths, in this one place.
-use Prim.Native.Nat.{ℕ, _+_, _*_, _/_, _%_}
+use Prim.Native.Nat.{ℕ, _+_, _*_, _/_, _%_, _<_, _^_}
 use mathlib.Core.List.{List, [], _∷_, _++_}
 use lib.ListN.{getD, drop}
 use Rattle.linear_model.specs.Products.{planeBytes}
-use Rattle.pair_model.specs.Scheme.{Scheme, layoutBytes}
+use Rattle.pair_model.specs.Scheme.{Scheme, Side, sideByte, layoutBytes}
 use Rattle.pair_model.specs.Tape.{dealLayout}
 
 -- the kinds
@@ -19,21 +19,37 @@ maskKind = 3
 abbrev pub shareKind : ℕ
 shareKind = 4
 
+-- what both units of a run are begun with alike, and each frame of the run carries
+pub record SharedParameters : Type 0 where
+  pub session : ℕ
+
+abbrev pub sharedParameters : ℕ → SharedParameters
+sharedParameters session = record { session = session }
+
 -- what a unit is begun with besides its halves, and each of its frames carries
 pub record Parameters : Type 0 where
   pub side : ℕ
-  pub session : ℕ
+  pub shared : SharedParameters
 
 abbrev pub parameters : ℕ → ℕ → Parameters
-parameters side session = record { side = side; session = session }
+parameters side session = record { side = side; shared = sharedParameters session }
+
+-- those of a side's unit
+abbrev pub parametersOf : Side → SharedParameters → Parameters
+parametersOf i shared = record { side = sideByte i; shared = shared }
 
 -- a header: kind, side, session (four bytes, lowest first)
 unfoldable pub header : ℕ → Parameters → List ℕ
 header kind t =
-    kind ∷ t .side ∷ t .session % 256 ∷ t .session / 256 % 256 ∷ t .session / 65536 % 256 ∷ t .session / 16777216 % 256 ∷ []
+    let session = t .shared .session in
+    kind ∷ t .side ∷ session % 256 ∷ session / 256 % 256 ∷ session / 65536 % 256 ∷ session / 16777216 % 256 ∷ []
 
 abbrev pub headerBytes : ℕ
 headerBytes = 6
+
+-- what these bytes can hold
+pub record FitsHeader (shared : SharedParameters) : Type 0 where
+  pub session : shared .session < 2 ^ 32
 
 -- a frame: header, then body
 unfoldable pub frame : ℕ → Parameters → List ℕ → List ℕ

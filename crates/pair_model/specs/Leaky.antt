@@ -1,11 +1,11 @@
 -- Protocols that must not pass: each is the protocol with one part exchanged.
 use Prim.Native.Nat.{ℕ, suc, _+_, _*_, _/_}
 use mathlib.Core.List.{List, [], _∷_}
-use mathlib.Core.Bool.{cond, false, _&&_}
+use mathlib.Core.Bool.{cond, _&&_}
 use lib.Dec.{eqb}
 use Rattle.linear_model.specs.Bits.{bit, addBits}
-use Rattle.linear_model.specs.Products.{circulantProduct}
-use Rattle.pair_model.specs.Scheme.{Scheme, Side, side0, side1, other, field, concat}
+use Rattle.pair_model.specs.Scheme.{Files, Scheme, productWith, Side, side0, side1, other, field, concat}
+use Rattle.pair_model.specs.Base.{matrixReading, circulantScheme}
 use Rattle.pair_model.specs.Tape.{K̃, x̃, w̃, z0, r0, dealLayout}
 use Rattle.pair_model.specs.Frame.{dealKind, openKind, maskKind, frame, kindOf, bodyOf, openLayout}
 use Rattle.pair_model.specs.Unit.{State, state, Stepped, refused, nothing, K̂, x̂, withDeal, withMask, addIfSide0, stepNumber, takeDeal, takeOpen, takeMask, step}
@@ -14,17 +14,7 @@ use Rattle.pair_model.specs.Run.{Protocol, protocol}
 
 -- a small scheme, in which they are refuted: one byte of key, label and inner vector, one digit, a file of one row
 abbrev pub small : Scheme
-small =
-    record {
-      keyBytes = 1;
-      innerBytes = 1;
-      digits = 1;
-      product = λ file key label. circulantProduct 1 key label;
-      productReads = false;
-      fileBytes = 2;
-      faults = λ file. [];
-      rows = λ file. file;
-    }
+small = circulantScheme 1 1 (matrixReading 2 (λ file. [])) (λ file. file)
 
 -- a string with its bit 0 cleared
 abbrev pub withoutBit0 : List ℕ → List ℕ
@@ -33,15 +23,15 @@ withoutBit0 (x ∷ s) = x / 2 * 2 ∷ s
 
 module _ (S : Scheme) where
   -- the protocol with another step
-  abbrev pub withStep : (State → List ℕ → List ℕ → ℕ → Stepped) → Protocol
+  abbrev pub withStep : (State → List ℕ → Files → ℕ → Stepped) → Protocol
   withStep step = record { scheme = S; deal = protocol S .deal; beginning = protocol S .beginning; step = step }
 
   -- a step with other ways to take a deal and an open frame
-  unfoldable pub stepBy : (State → List ℕ → Stepped) → (State → List ℕ → List ℕ → Stepped) → State → List ℕ → List ℕ → ℕ → Stepped
-  stepBy onDeal onOpen u f file outputLength =
-      let number = stepNumber S (u .parameters) (u .stage) f file outputLength in
+  unfoldable pub stepBy : (State → List ℕ → Stepped) → (State → List ℕ → Files → Stepped) → State → List ℕ → Files → ℕ → Stepped
+  stepBy onDeal onOpen u f lent outputLength =
+      let number = stepNumber S (u .parameters) (u .stage) f lent outputLength in
       cond (eqb number 0)
-      (cond (eqb (u .stage) dealKind) (onDeal u (bodyOf f)) (cond (eqb (u .stage) openKind) (onOpen u (bodyOf f) file) (takeMask S u (bodyOf f) file)))
+      (cond (eqb (u .stage) dealKind) (onDeal u (bodyOf f)) (cond (eqb (u .stage) openKind) (onOpen u (bodyOf f) lent) (takeMask S u (bodyOf f) lent)))
       (refused number u)
 
   -- ---- the key half sent bare
@@ -59,13 +49,13 @@ module _ (S : Scheme) where
 
   -- ---- a mask frame without z
 
-  unfoldable pub maskWithoutZ : List ℕ → ℕ → (K̂ x̂ K̃ x̃ : List ℕ) → List ℕ
-  maskWithoutZ file side K̂ x̂ K̃ x̃ =
-      addIfSide0 S side (addBits (S .innerBytes) (S .product file K̂ x̃) (S .product file K̃ x̂)) (S .product file K̂ x̂)
+  unfoldable pub maskWithoutZ : Files → ℕ → (K̂ x̂ K̃ x̃ : List ℕ) → List ℕ
+  maskWithoutZ lent side K̂ x̂ K̃ x̃ =
+      addIfSide0 S side (addBits (S .innerBytes) (productWith S lent K̂ x̃) (productWith S lent K̃ x̂)) (productWith S lent K̂ x̂)
 
-  unfoldable pub takeOpenWithoutZ : State → List ℕ → List ℕ → Stepped
-  takeOpenWithoutZ u body file =
-      let ŵi = maskWithoutZ file (u .parameters .side) (K̂ S u body) (x̂ S u body) (u .secrets .keyMask) (u .secrets .labelMask) in
+  unfoldable pub takeOpenWithoutZ : State → List ℕ → Files → Stepped
+  takeOpenWithoutZ u body lent =
+      let ŵi = maskWithoutZ lent (u .parameters .side) (K̂ S u body) (x̂ S u body) (u .secrets .keyMask) (u .secrets .labelMask) in
       record { result = 0; written = frame maskKind (u .parameters) ŵi; next = withMask S u ŵi }
 
   abbrev pub withoutZ : Protocol
@@ -77,7 +67,7 @@ module _ (S : Scheme) where
   dealtBy change =
       record {
         scheme = S;
-        deal = λ session file tape. dealFrame S session file (change tape);
+        deal = λ shared lent tape. dealFrame S shared lent (change tape);
         beginning = protocol S .beginning;
         step = step S;
       }
@@ -119,9 +109,9 @@ module _ (S : Scheme) where
 
   -- ---- mask frames with another body: none, the sender's key half, or a part of the frame that it took
 
-  abbrev pub takeOpenWriting : (State → List ℕ → List ℕ) → State → List ℕ → List ℕ → Stepped
-  takeOpenWriting other u body file =
-      record { result = 0; written = frame maskKind (u .parameters) (other u body); next = takeOpen S u body file .next }
+  abbrev pub takeOpenWriting : (State → List ℕ → List ℕ) → State → List ℕ → Files → Stepped
+  takeOpenWriting other u body lent =
+      record { result = 0; written = frame maskKind (u .parameters) (other u body); next = takeOpen S u body lent .next }
 
   abbrev pub emptyMask : Protocol
   emptyMask = withStep (stepBy (takeDeal S) (takeOpenWriting (λ u body. [])))
@@ -135,13 +125,13 @@ module _ (S : Scheme) where
   -- ---- a unit that refuses every frame
 
   abbrev pub refusesAll : Protocol
-  refusesAll = withStep (λ u f file outputLength. refused 13 u)
+  refusesAll = withStep (λ u f lent outputLength. refused 13 u)
 
   -- ---- a unit that takes a deal in every stage
 
-  unfoldable pub dealAgain : State → List ℕ → List ℕ → ℕ → Stepped
-  dealAgain u f file outputLength =
-      let s = step S u f file outputLength in
+  unfoldable pub dealAgain : State → List ℕ → Files → ℕ → Stepped
+  dealAgain u f lent outputLength =
+      let s = step S u f lent outputLength in
       cond (eqb (s .result) 7 && eqb (kindOf f) dealKind) (takeDeal S u (bodyOf f)) s
 
   abbrev pub secondDeal : Protocol
@@ -149,9 +139,9 @@ module _ (S : Scheme) where
 
   -- ---- a number that tells a bit of the key half: 4 for 3 where it is set
 
-  unfoldable pub numberByKey : State → List ℕ → List ℕ → ℕ → Stepped
-  numberByKey u f file outputLength =
-      let s = step S u f file outputLength in
+  unfoldable pub numberByKey : State → List ℕ → Files → ℕ → Stepped
+  numberByKey u f lent outputLength =
+      let s = step S u f lent outputLength in
       record { result = cond (eqb (s .result) 3) (3 + bit (u .secrets .key) 0) (s .result); written = s .written; next = s .next }
 
   abbrev pub tellingNumber : Protocol
@@ -159,9 +149,9 @@ module _ (S : Scheme) where
 
   -- ---- a refusal that clears the secrets
 
-  unfoldable pub clearedIfRefused : State → List ℕ → List ℕ → ℕ → Stepped
-  clearedIfRefused u f file outputLength =
-      let s = step S u f file outputLength in
+  unfoldable pub clearedIfRefused : State → List ℕ → Files → ℕ → Stepped
+  clearedIfRefused u f lent outputLength =
+      let s = step S u f lent outputLength in
       cond (eqb (s .result) 0) s (refused (s .result) (state (u .parameters) (u .stage) (nothing S)))
 
   abbrev pub clearingRefusal : Protocol
@@ -169,11 +159,11 @@ module _ (S : Scheme) where
 
   -- ---- a unit that takes any frame at one stage, and is one stage further then
 
-  unfoldable pub takenAt : ℕ → State → List ℕ → List ℕ → ℕ → Stepped
-  takenAt stage u f file outputLength =
+  unfoldable pub takenAt : ℕ → State → List ℕ → Files → ℕ → Stepped
+  takenAt stage u f lent outputLength =
       cond (eqb (u .stage) stage)
       (record { result = 0; written = []; next = state (u .parameters) (suc stage) (u .secrets) })
-      (step S u f file outputLength)
+      (step S u f lent outputLength)
 
   abbrev pub takesAt : ℕ → Protocol
   takesAt stage = withStep (takenAt stage)

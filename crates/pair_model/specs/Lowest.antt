@@ -3,7 +3,9 @@ use Prim.Native.Nat.{ℕ}
 use mathlib.Core.List.{List}
 use Rattle.numbers.specs.Lowest.{Lowest}
 use Rattle.matrix_model.specs.File.{checkConditions, checkNumber, readConditions, readNumber, writeConditions, writeNumber}
+use Rattle.pair_model.specs.Scheme.{Files}
 use Rattle.pair_model.specs.Base.{base}
+use Rattle.pair_model.specs.Frame.{Parameters}
 use Rattle.pair_model.specs.Sampler.{sampleConditions, sampleNumber}
 use Rattle.pair_model.specs.Evaluator.{evaluateConditions, evaluateNumber}
 use Rattle.pair_model.specs.Unit.{State, beginConditions, begin, stepConditions, step}
@@ -14,19 +16,17 @@ use Rattle.pair_model.specs.WholeRun.{runConditions, runNumber}
 
 pub record LowestNumbers : Type 0 where
   -- the evaluator
-  pub evaluates : (key label file : List ℕ) (n : ℕ) → Lowest (evaluateConditions base key label file n) (evaluateNumber base key label file n)
+  pub evaluates : (key label : List ℕ) (lent : Files) (n : ℕ) → Lowest (evaluateConditions base key label lent n) (evaluateNumber base key label lent n)
   -- the dealer, of a tape and of source bytes, and the sampler
-  pub deals : (tape : List ℕ) (n : ℕ) → Lowest (dealConditions base tape n) (dealNumber base tape n)
-  pub deals-source : (source : List ℕ) (n : ℕ) → Lowest (dealSourceConditions base source n) (dealSourceNumber base source n)
+  pub deals : (lent : Files) (tape : List ℕ) (n : ℕ) → Lowest (dealConditions base lent tape n) (dealNumber base lent tape n)
+  pub deals-source : (lent : Files) (source : List ℕ) (n : ℕ) → Lowest (dealSourceConditions base lent source n) (dealSourceNumber base lent source n)
   pub samples : (source : List ℕ) (n : ℕ) → Lowest (sampleConditions base source n) (sampleNumber base source n)
   -- the unit: its beginning and its step, and both over a slice
-  pub begins : (side session : ℕ) (key label : List ℕ)
-      → Lowest (beginConditions base side key label) (begin base side session key label .result)
-  pub begins-slice : (side : ℕ) (key label s : List ℕ)
-      → Lowest (pairBeginConditions base side key label s) (pairBeginNumber base side key label s)
-  pub steps : (u : State) (f file : List ℕ) (n : ℕ)
-      → Lowest (stepConditions base (u .parameters) (u .stage) f file n) (step base u f file n .result)
-  pub steps-slice : (s f file : List ℕ) (n : ℕ) → Lowest (pairStepConditions base s f file n) (pairStepNumber base s f file n)
+  pub begins : (t : Parameters) (key label : List ℕ) → Lowest (beginConditions base t key label) (begin base t key label .result)
+  pub begins-slice : (t : Parameters) (key label s : List ℕ) → Lowest (pairBeginConditions base t key label s) (pairBeginNumber base t key label s)
+  pub steps : (u : State) (f : List ℕ) (lent : Files) (n : ℕ)
+      → Lowest (stepConditions base (u .parameters) (u .stage) f lent n) (step base u f lent n .result)
+  pub steps-slice : (s f : List ℕ) (lent : Files) (n : ℕ) → Lowest (pairStepConditions base s f lent n) (pairStepNumber base s f lent n)
   -- the counter's join
   pub joins : (f g : List ℕ) (n : ℕ) → Lowest (joinConditions base f g n) (joinNumber base f g n)
   -- the matrix file: writer, reader and check

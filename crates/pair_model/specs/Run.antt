@@ -1,31 +1,32 @@
 -- Runs: two units, the dealer's frames and a list of steps; and two runs over one list.
-use Prim.Native.Nat.{ℕ, suc, _-_, _≤_, _<_, _^_}
+use Prim.Native.Nat.{ℕ, suc, _-_, _≤_}
 use mathlib.Core.Path.{_≡_}
 use mathlib.Core.Logic.{_≢_}
 use mathlib.Core.List.{List, [], _∷_, _++_}
 use mathlib.Core.Bool.{cond}
-use lib.Dec.{T, eqb}
+use lib.Dec.{eqb}
 use lib.ListN.{length, getD, take}
 use Rattle.linear_model.specs.Bits.{Bytes}
-use Rattle.pair_model.specs.Scheme.{Scheme, Side, side0, side1, sideByte, other, fileNumber}
-use Rattle.pair_model.specs.Unit.{State, Beginning, Stepped, begin, step, readsFile, leastOutput}
+use Rattle.pair_model.specs.Scheme.{Files, readingNumber, Scheme, Side, side0, side1, other}
+use Rattle.pair_model.specs.Frame.{SharedParameters, parametersOf, FitsHeader, kindOf}
+use Rattle.pair_model.specs.Unit.{State, Beginning, Stepped, begin, step, stepReading, leastOutput}
 use Rattle.pair_model.specs.Dealer.{dealFrame}
 
--- a key half and a label half for each side, a session and a matrix file
+-- a key half and a label half for each side, what both units are begun with alike, and the public files
 pub record Inputs : Type 0 where
   pub key : Side → List ℕ
   pub label : Side → List ℕ
-  pub session : ℕ
-  pub file : List ℕ
+  pub shared : SharedParameters
+  pub files : Files
 
 -- what runs are made of: a scheme, the dealer's frame for each side, the beginning of each side's unit, and the step of the units
 pub record Protocol : Type 0 where
   pub scheme : Scheme
-  -- of a session, a file and a tape
-  pub deal : ℕ → List ℕ → List ℕ → Side → List ℕ
+  -- of what both units are begun with, the files and a tape
+  pub deal : SharedParameters → Files → List ℕ → Side → List ℕ
   -- what the protocol's dealer and beginning must not see is within reach here, so that one that shows it can be named
   pub beginning : Inputs → Side → Beginning
-  pub step : State → List ℕ → List ℕ → ℕ → Stepped
+  pub step : State → List ℕ → Files → ℕ → Stepped
 
 -- the protocol of document 01 over a scheme: a unit is begun with its own halves alone
 abbrev pub protocol : Scheme → Protocol
@@ -33,15 +34,17 @@ protocol S =
     record {
       scheme = S;
       deal = dealFrame S;
-      beginning = λ a i. begin S (sideByte i) (a .session) (a .key i) (a .label i);
+      beginning = λ a i. begin S (parametersOf i (a .shared)) (a .key i) (a .label i);
       step = step S;
     }
 
 pub record WellFormed (S : Scheme) (a : Inputs) : Type 0 where
   pub key : (i : Side) → Bytes (S .keyBytes) (a .key i)
   pub label : (i : Side) → Bytes (S .keyBytes) (a .label i)
-  pub session : a .session < 2 ^ 32
-  pub file : fileNumber S (a .file) ≡ 0
+  pub shared : FitsHeader (a .shared)
+  -- all that is read of its files is fit
+  pub product : readingNumber (S .productReading) (a .files) ≡ 0
+  pub rows : readingNumber (S .rowsReading) (a .files) ≡ 0
 
 pub record Run : Type 0 where
   pub inputs : Inputs
@@ -64,11 +67,11 @@ pub data Delivery : Type 0 where
 pub record Entry : Type 0 where
   pub side : Side
   pub delivery : Delivery
-  pub file : List ℕ
+  pub files : Files
   pub outputLength : ℕ
 
-abbrev pub entry : Side → Delivery → List ℕ → ℕ → Entry
-entry i d file outputLength = record { side = i; delivery = d; file = file; outputLength = outputLength }
+abbrev pub entry : Side → Delivery → Files → ℕ → Entry
+entry i d lent outputLength = record { side = i; delivery = d; files = lent; outputLength = outputLength }
 
 -- side i's value replaced
 abbrev pub update {ℓ} : {A : Type ℓ} → Side → A → (Side → A) → Side → A
@@ -97,7 +100,7 @@ module _ (P : Protocol) where
   -- what a unit waits for, in turn: the dealer's frame for it, the other unit's open frame, its mask frame, once written
   abbrev pub framesFor : Run → Configuration → Side → List (List ℕ)
   framesFor run c i =
-      P .deal (run .inputs .session) (run .inputs .file) (run .tape) i ∷ take 2 (c .sent (other i))
+      P .deal (run .inputs .shared) (run .inputs .files) (run .tape) i ∷ take 2 (c .sent (other i))
 
   -- the frame handed in; a unit at stage s waits for frame s − 1 of these
   abbrev pub frameOf : Run → Configuration → Side → Delivery → List ℕ
@@ -106,7 +109,7 @@ module _ (P : Protocol) where
 
   -- one entry played: the step gets the state that this unit's last step, or its beginning, gave back
   abbrev pub stepOf : Run → Configuration → Entry → Stepped
-  stepOf run c e = P .step (c .unit (e .side)) (frameOf run c (e .side) (e .delivery)) (e .file) (e .outputLength)
+  stepOf run c e = P .step (c .unit (e .side)) (frameOf run c (e .side) (e .delivery)) (e .files) (e .outputLength)
 
   unfoldable pub next : Run → Configuration → Entry → Configuration
   next run c e =
@@ -122,11 +125,11 @@ module _ (P : Protocol) where
   final run c [] = c
   final run c (e ∷ es) = final run (next run c e) es
 
-  -- as sent: the frame was written earlier in this run, a file that the step reads is the run's, the output slice is long enough
+  -- as sent: the frame was written earlier in this run, what the step reads of its files is the run's, the output slice is long enough
   pub record DeliveredAsSent (run : Run) (c : Configuration) (e : Entry) : Type 0 where
     pub waiting : 1 ≤ c .unit (e .side) .stage
     pub written : c .unit (e .side) .stage ≤ length (framesFor run c (e .side))
-    pub file : T (readsFile (P .scheme) (frameOf run c (e .side) asSent)) → e .file ≡ run .inputs .file
+    pub files : let read = stepReading (P .scheme) (kindOf (frameOf run c (e .side) asSent)) in read .content (e .files) ≡ read .content (run .inputs .files)
     pub output : leastOutput (P .scheme) ≤ e .outputLength
 
   -- stray: refused
@@ -144,7 +147,7 @@ module _ (P : Protocol) where
 -- what a stray step is lent
 pub record Lent : Type 0 where
   pub frame : List ℕ
-  pub file : List ℕ
+  pub files : Files
   pub outputLength : ℕ
 
 -- an entry that both runs share, or a stray one of the unit that is not fixed, each run's own
@@ -153,7 +156,7 @@ pub data SharedEntry : Type 0 where
   differ : Lent → Lent → SharedEntry
 
 abbrev pub strayOf : Side → Lent → Entry
-strayOf i l = entry i (stray (l .frame)) (l .file) (l .outputLength)
+strayOf i l = entry i (stray (l .frame)) (l .files) (l .outputLength)
 
 -- a shared list, as the first and as the second run has it
 abbrev pub firstOf : Side → List SharedEntry → List Entry

@@ -5,9 +5,9 @@ use mathlib.Core.Logic.{_≢_}
 use mathlib.Core.List.{List, [], _∷_}
 use Rattle.linear_model.specs.Bits.{zeros}
 use Rattle.matrix_model.specs.Sample.{sampleFile}
-use Rattle.pair_model.specs.Scheme.{Scheme, Side, side0, side1, other, total}
+use Rattle.pair_model.specs.Scheme.{Files, files, noFiles, Scheme, Side, side0, side1, other, total}
 use Rattle.pair_model.specs.Tape.{tapeBytes, Accepted}
-use Rattle.pair_model.specs.Frame.{codeBytes}
+use Rattle.pair_model.specs.Frame.{sharedParameters, codeBytes}
 use Rattle.pair_model.specs.Evaluator.{evaluateNumber}
 use Rattle.pair_model.specs.Unit.{leastOutput}
 use Rattle.pair_model.specs.Base.{base}
@@ -25,8 +25,8 @@ sampleInputs =
     record {
       key = ofSides (1 ∷ zeros 31) (zeros 32);
       label = ofSides (5 ∷ zeros 31) (zeros 32);
-      session = 1;
-      file = sampleFile;
+      shared = sharedParameters 1;
+      files = files sampleFile;
     }
 
 -- the same with another key half and another label half of one side
@@ -35,8 +35,8 @@ changed i =
     record {
       key = update i (2 ∷ zeros 31) (sampleInputs .key);
       label = update i (9 ∷ zeros 31) (sampleInputs .label);
-      session = 1;
-      file = sampleFile;
+      shared = sharedParameters 1;
+      files = files sampleFile;
     }
 
 -- a tape of zeros
@@ -45,16 +45,16 @@ sampleRun = runOf sampleInputs (zeros (tapeBytes base))
 
 -- an entry as sent for a unit
 abbrev pub sampleEntry : Side → Entry
-sampleEntry i = entry i asSent sampleFile (leastOutput base)
+sampleEntry i = entry i asSent (files sampleFile) (leastOutput base)
 
 -- the six entries in order, with an empty frame for the fixed unit and, for the other one, a stray call that differs between the runs
-abbrev pub withStrays : Scheme → List ℕ → Side → List SharedEntry
-withStrays S file fixed =
-    let e0 = same (entry side0 asSent file (leastOutput S)) in
-    let e1 = same (entry side1 asSent file (leastOutput S)) in
-    let l₁ : Lent = record { frame = []; file = file; outputLength = leastOutput S } in
-    let l₂ : Lent = record { frame = 7 ∷ []; file = []; outputLength = 0 } in
-    e0 ∷ same (entry fixed (stray []) file (leastOutput S)) ∷ e1 ∷ differ l₁ l₂ ∷ e0 ∷ e1 ∷ e0 ∷ e1 ∷ []
+abbrev pub withStrays : Scheme → Files → Side → List SharedEntry
+withStrays S lent fixed =
+    let e0 = same (entry side0 asSent lent (leastOutput S)) in
+    let e1 = same (entry side1 asSent lent (leastOutput S)) in
+    let l₁ : Lent = record { frame = []; files = lent; outputLength = leastOutput S } in
+    let l₂ : Lent = record { frame = 7 ∷ []; files = noFiles; outputLength = 0 } in
+    e0 ∷ same (entry fixed (stray []) lent (leastOutput S)) ∷ e1 ∷ differ l₁ l₂ ∷ e0 ∷ e1 ∷ e0 ∷ e1 ∷ []
 
 -- the sample is a run, and can be compared with runs of those other inputs, whatever their tape is
 pub record SampleCompared : Type 0 where
@@ -64,13 +64,13 @@ pub record SampleCompared : Type 0 where
   pub differs : (i : Side) → (changed i .key i ≢ sampleInputs .key i) × (changed i .label i ≢ sampleInputs .label i)
   pub sameForFixed : (fixed : Side) → SameForFixed fixed sampleInputs (changed (other fixed))
   pub comparable : (fixed : Side) (tape : List ℕ) → let P = protocol base in let run₂ = runOf (changed (other fixed)) tape in
-      Comparable P fixed sampleRun run₂ (start P sampleRun) (start P run₂) (withStrays base sampleFile fixed)
+      Comparable P fixed sampleRun run₂ (start P sampleRun) (start P run₂) (withStrays base (files sampleFile) fixed)
   pub done : (fixed : Side) → let P = protocol base in
-      Done P (final P sampleRun (start P sampleRun) (firstOf fixed (withStrays base sampleFile fixed)))
+      Done P (final P sampleRun (start P sampleRun) (firstOf fixed (withStrays base (files sampleFile) fixed)))
   -- each unit's deal is there at the start, and what unit 0 waits for after it is not
   pub available : (i : Side) → let P = protocol base in DeliveredAsSent P sampleRun (start P sampleRun) (sampleEntry i)
   pub notAhead : let P = protocol base in
       ¬ DeliveredAsSent P sampleRun (final P sampleRun (start P sampleRun) (sampleEntry side0 ∷ [])) (sampleEntry side0)
   -- 101 and 78 zeros, which the evaluator gives too
-  pub evaluates : evaluateNumber base (total (base .keyBytes) (sampleInputs .key)) (total (base .keyBytes) (sampleInputs .label)) sampleFile (codeBytes base) ≡ 0
+  pub evaluates : evaluateNumber base (total (base .keyBytes) (sampleInputs .key)) (total (base .keyBytes) (sampleInputs .label)) (files sampleFile) (codeBytes base) ≡ 0
   pub code : ownCode (protocol base) sampleRun ≡ 5 ∷ zeros 21

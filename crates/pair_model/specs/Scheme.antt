@@ -1,13 +1,48 @@
--- What the protocol is built over: sizes, the product of key and label, and the matrix file.
+-- What the protocol is built over: sizes, the product of key and label, the rows of the matrix, and what is read of public files for both.
 use Prim.Native.Nat.{ℕ, zero, suc, _+_}
-use mathlib.Core.Path.{_≡_}
-use mathlib.Core.Bool.{Bool, false, not}
 use mathlib.Core.List.{List, [], _∷_, _++_}
+use mathlib.Core.Bool.{Bool, not}
 use lib.Dec.{eqb}
 use lib.ListN.{length, take, drop}
 use Rattle.linear_model.specs.Bits.{addBits}
 use Rattle.linear_model.specs.Products.{Bilinear}
 use Rattle.numbers.specs.Number.{Condition, _when_, first}
+
+-- ---- public files, and what is read of them
+
+-- the public files that a call is lent
+pub record Files : Type 0 where
+  pub matrix : List ℕ
+
+abbrev pub files : List ℕ → Files
+files matrix = record { matrix = matrix }
+
+-- what a call is lent that reads no file
+abbrev pub noFiles : Files
+noFiles = files []
+
+-- what is read in one role: the bytes, how many they must be, and what else may be wrong with them
+pub record Reading : Type 0 where
+  pub content : Files → List ℕ
+  pub bytes : ℕ
+  pub faults : List ℕ → List Condition
+
+abbrev pub readsNothing : Reading
+readsNothing = record { content = λ lent. []; bytes = 0; faults = λ content. [] }
+
+-- whether the bytes that are read are more or fewer
+abbrev pub badLength : Reading → Files → Bool
+badLength reading lent = not (eqb (length (reading .content lent)) (reading .bytes))
+
+-- what else is wrong with them
+abbrev pub faultsIn : Reading → Files → List Condition
+faultsIn reading lent = reading .faults (reading .content lent)
+
+-- the number of what is read, of any length; it is fit where that is 0
+unfoldable pub readingNumber : Reading → Files → ℕ
+readingNumber reading lent = first (1 when badLength reading lent ∷ faultsIn reading lent)
+
+-- ---- schemes
 
 pub record Scheme : Type 0 where
   -- bytes of a key and of a label
@@ -16,19 +51,23 @@ pub record Scheme : Type 0 where
   pub innerBytes : ℕ
   -- digits of a code
   pub digits : ℕ
-  -- the product of a public file, a key and a label
+  -- what is read for the product, and the product of those bytes, a key and a label
+  pub productReading : Reading
   pub product : List ℕ → List ℕ → List ℕ → List ℕ
-  -- whether the product reads the file
-  pub productReads : Bool
-  -- the matrix file: its length, what may be wrong with its bytes, and the rows that it holds
-  pub fileBytes : ℕ
-  pub faults : List ℕ → List Condition
+  -- what is read for the rows of the matrix, and the rows that those bytes hold
+  pub rowsReading : Reading
   pub rows : List ℕ → List ℕ
 
--- What the theorem asks of a scheme: the product is linear on both sides, and does not depend on a file that it does not read.
+-- What the theorem asks of a scheme: the product is linear on both sides, whatever is read for it.
 pub record Linear (S : Scheme) : Type 0 where
-  pub bilinear : (file : List ℕ) → Bilinear (S .innerBytes) (S .keyBytes) (S .product file)
-  pub unread : S .productReads ≡ false → (f g key label : List ℕ) → S .product f key label ≡ S .product g key label
+  pub bilinear : (content : List ℕ) → Bilinear (S .innerBytes) (S .keyBytes) (S .product content)
+
+-- the product and the rows with the files that a call is lent
+abbrev pub productWith : Scheme → Files → List ℕ → List ℕ → List ℕ
+productWith S lent = S .product (S .productReading .content lent)
+
+abbrev pub rowsWith : Scheme → Files → List ℕ
+rowsWith S lent = S .rows (S .rowsReading .content lent)
 
 -- ---- the two sides
 
@@ -64,9 +103,3 @@ field (n ∷ sizes) (suc i) s = field sizes i (drop n s)
 unfoldable pub concat : List (List ℕ) → List ℕ
 concat [] = []
 concat (s ∷ fields) = s ++ concat fields
-
--- ---- the matrix file
-
--- the number of a matrix file, of any length; it is fit where that is 0
-unfoldable pub fileNumber : Scheme → List ℕ → ℕ
-fileNumber S file = first (1 when not (eqb (length file) (S .fileBytes)) ∷ S .faults file)

@@ -5,7 +5,7 @@ use mathlib.Core.Bool.{Bool, not}
 use lib.Dec.{T}
 use Rattle.linear_model.specs.Bits.{Bytes, addBits}
 use Rattle.linear_model.specs.Trits.{fitTrits, subtractTrits}
-use Rattle.pair_model.specs.Scheme.{Scheme, Side, side0, side1, total, layoutBytes, field, concat}
+use Rattle.pair_model.specs.Scheme.{Files, Scheme, productWith, Side, side0, side1, total, layoutBytes, field, concat}
 
 module _ (S : Scheme) where
   -- a tape: K̃0, K̃1, x̃0, x̃1, w̃, z0, then the trit vector r0
@@ -43,11 +43,11 @@ module _ (S : Scheme) where
   unfitTape tape = not (fitTrits (S .innerBytes) (8 * S .innerBytes) (r0 tape))
 
   -- z1 = z0 + K̃ × x̃ + w̃ modulo 2
-  unfoldable pub z : List ℕ → List ℕ → Side → List ℕ
-  z file tape side0 = z0 tape
-  z file tape side1 =
+  unfoldable pub z : Files → List ℕ → Side → List ℕ
+  z lent tape side0 = z0 tape
+  z lent tape side1 =
       addBits (S .innerBytes)
-      (addBits (S .innerBytes) (z0 tape) (S .product file (total (S .keyBytes) (K̃ tape)) (total (S .keyBytes) (x̃ tape)))) (w̃ tape)
+      (addBits (S .innerBytes) (z0 tape) (productWith S lent (total (S .keyBytes) (K̃ tape)) (total (S .keyBytes) (x̃ tape)))) (w̃ tape)
 
   -- r1 = w̃ − r0 modulo 3
   unfoldable pub r : List ℕ → Side → List ℕ
@@ -58,5 +58,5 @@ module _ (S : Scheme) where
   abbrev pub dealLayout : List ℕ
   dealLayout = S .keyBytes ∷ S .keyBytes ∷ S .innerBytes ∷ 2 * S .innerBytes ∷ []
 
-  unfoldable pub deal : List ℕ → List ℕ → Side → List ℕ
-  deal file tape i = concat (K̃ tape i ∷ x̃ tape i ∷ z file tape i ∷ r tape i ∷ [])
+  unfoldable pub deal : Files → List ℕ → Side → List ℕ
+  deal lent tape i = concat (K̃ tape i ∷ x̃ tape i ∷ z lent tape i ∷ r tape i ∷ [])

@@ -4,32 +4,32 @@ use mathlib.Core.Path.{_≡_}
 use mathlib.Core.Logic.{_≢_}
 use mathlib.Core.List.{List, [], _∷_}
 use mathlib.Core.Bool.{cond}
-use lib.Dec.{T, eqb}
+use lib.Dec.{eqb}
 use lib.ListN.{getD}
 use Rattle.pair_model.specs.Scheme.{Scheme, Side, side0, side1, other, total}
 use Rattle.pair_model.specs.Tape.{Accepted}
-use Rattle.pair_model.specs.Frame.{codeBytes}
+use Rattle.pair_model.specs.Frame.{kindOf, codeBytes}
 use Rattle.pair_model.specs.Evaluator.{code, evaluateNumber}
-use Rattle.pair_model.specs.Unit.{State, leastOutput, readsFile, idleStage, doneStage}
+use Rattle.pair_model.specs.Unit.{State, leastOutput, stepReading, idleStage, doneStage}
 use Rattle.pair_model.specs.Join.{joinNumber, joined}
 use Rattle.pair_model.specs.Run.{Protocol, Inputs, WellFormed, Run, runOf, Configuration, Delivery, asSent, stray, Entry, entry, Lent, SharedEntry, start, frameOf, stepOf, next, final, sentCount, DeliveredAsSent, ListOf, Comparable, SameNumbers, firstOf, secondOf}
 use Rattle.pair_model.specs.View.{view}
 
 -- a map and its inverse between what two predicates hold of
-pub record Bijection (A B : List ℕ → Type 0) : Type 0 where
-  pub forth : List ℕ → List ℕ
-  pub back : List ℕ → List ℕ
-  pub forth-holds : (t : List ℕ) → A t → B (forth t)
-  pub back-holds : (t : List ℕ) → B t → A (back t)
-  pub back-forth : (t : List ℕ) → A t → back (forth t) ≡ t
-  pub forth-back : (t : List ℕ) → B t → forth (back t) ≡ t
+pub record Bijection {A B : Type 0} (P : A → Type 0) (Q : B → Type 0) : Type 0 where
+  pub forth : A → B
+  pub back : B → A
+  pub forth-holds : (a : A) → P a → Q (forth a)
+  pub back-holds : (b : B) → Q b → P (back b)
+  pub back-forth : (a : A) → P a → back (forth a) ≡ a
+  pub forth-back : (b : B) → Q b → forth (back b) ≡ b
 
 -- two runs' inputs that differ in the other unit's halves alone
 pub record SameForFixed (fixed : Side) (a b : Inputs) : Type 0 where
   pub key : a .key fixed ≡ b .key fixed
   pub label : a .label fixed ≡ b .label fixed
-  pub session : a .session ≡ b .session
-  pub file : a .file ≡ b .file
+  pub shared : a .shared ≡ b .shared
+  pub files : a .files ≡ b .files
 
 module _ (P : Protocol) where
   abbrev S : Scheme
@@ -74,20 +74,21 @@ module _ (P : Protocol) where
   -- six entries as sent, the units in turn
   abbrev pub inOrder : Run → List Entry
   inOrder run =
-      let e0 = entry side0 asSent (run .inputs .file) (leastOutput S) in
-      let e1 = entry side1 asSent (run .inputs .file) (leastOutput S) in
+      let e0 = entry side0 asSent (run .inputs .files) (leastOutput S) in
+      let e1 = entry side1 asSent (run .inputs .files) (leastOutput S) in
       e0 ∷ e1 ∷ e0 ∷ e1 ∷ e0 ∷ e1 ∷ []
 
   -- the run's own key, label and code
   abbrev pub ownCode : Run → List ℕ
   ownCode run =
-      code S (total (S .keyBytes) (run .inputs .key)) (total (S .keyBytes) (run .inputs .label)) (run .inputs .file)
+      code S (total (S .keyBytes) (run .inputs .key)) (total (S .keyBytes) (run .inputs .label)) (run .inputs .files)
 
   -- when an entry as sent is available, by the counts of entries as sent so far: the unit is not done and not ahead of the other
   pub record Available (run : Run) (es : List Entry) (e : Entry) : Type 0 where
     pub notDone : sentCount es (e .side) < 3
     pub notAhead : sentCount es (e .side) ≤ sentCount es (other (e .side))
-    pub file : T (readsFile S (frameOf P run (final P run (start P run) es) (e .side) asSent)) → e .file ≡ run .inputs .file
+    pub files : let read = stepReading S (kindOf (frameOf P run (final P run (start P run) es) (e .side) asSent)) in
+        read .content (e .files) ≡ read .content (run .inputs .files)
     pub output : leastOutput S ≤ e .outputLength
 
   -- the beginnings of a run are accepted
@@ -105,7 +106,7 @@ module _ (P : Protocol) where
     pub only-available : (es : List Entry) → ListOf P run (start P run) es → (e : Entry)
         → DeliveredAsSent P run (final P run (start P run) es) e → Available run es e
     pub ends : ListOf P run (start P run) (inOrder run) × Done (final P run (start P run) (inOrder run))
-    pub evaluates : evaluateNumber S (total (S .keyBytes) (run .inputs .key)) (total (S .keyBytes) (run .inputs .label)) (run .inputs .file) (codeBytes S) ≡ 0
+    pub evaluates : evaluateNumber S (total (S .keyBytes) (run .inputs .key)) (total (S .keyBytes) (run .inputs .label)) (run .inputs .files) (codeBytes S) ≡ 0
     pub joins : (es : List Entry) → ListOf P run (start P run) es → let c = final P run (start P run) es in Done c
         → (joinNumber S (shareFrame c side0) (shareFrame c side1) (codeBytes S) ≡ 0)
         × (joined S (shareFrame c side0) (shareFrame c side1) ≡ ownCode run)
@@ -118,11 +119,11 @@ module _ (P : Protocol) where
   abbrev pub acceptedCount : State → List Lent → ℕ
   acceptedCount u [] = 0
   acceptedCount u (l ∷ ls) =
-      let s = P .step u (l .frame) (l .file) (l .outputLength) in cond (eqb (s .result) 0) 1 0 + acceptedCount (s .next) ls
+      let s = P .step u (l .frame) (l .files) (l .outputLength) in cond (eqb (s .result) 0) 1 0 + acceptedCount (s .next) ls
 
   abbrev pub after : State → List Lent → State
   after u [] = u
-  after u (l ∷ ls) = after (P .step u (l .frame) (l .file) (l .outputLength) .next) ls
+  after u (l ∷ ls) = after (P .step u (l .frame) (l .files) (l .outputLength) .next) ls
 
   -- the stage moves by exactly the number of accepted frames, up to done; a refusal changes nothing
   pub record ThreeFrames : Type 0 where
@@ -130,7 +131,7 @@ module _ (P : Protocol) where
     pub bounded : (u : State) (ls : List Lent) → u .stage ≤ doneStage → after u ls .stage ≤ doneStage
     pub idle : (u : State) (ls : List Lent) → u .stage ≡ idleStage → acceptedCount u ls ≡ 0
     pub beyond : (u : State) (ls : List Lent) → doneStage < u .stage → acceptedCount u ls ≡ 0
-    pub refusal : (u : State) (l : Lent) → let s = P .step u (l .frame) (l .file) (l .outputLength) in
+    pub refusal : (u : State) (l : Lent) → let s = P .step u (l .frame) (l .files) (l .outputLength) in
         s .result ≢ 0 → (s .written ≡ []) × (s .next ≡ u)
 
   -- ---- the whole

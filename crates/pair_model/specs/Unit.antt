@@ -1,13 +1,13 @@
 -- The unit: how it begins, what a step returns, writes and leaves.
 use Prim.Native.Nat.{ℕ, _+_, _-_, _*_}
 use mathlib.Core.List.{List, [], _∷_, _++_}
-use mathlib.Core.Bool.{Bool, cond, not, _&&_, _||_}
+use mathlib.Core.Bool.{Bool, cond, not}
 use lib.Dec.{ltb, eqb}
 use lib.ListN.{length}
 use Rattle.linear_model.specs.Bits.{zeros, addBits}
 use Rattle.linear_model.specs.Trits.{fitTrits, innerShare}
 use Rattle.numbers.specs.Number.{Condition, _when_, first, onlyIf}
-use Rattle.pair_model.specs.Scheme.{Scheme, field, concat}
+use Rattle.pair_model.specs.Scheme.{Files, Reading, readsNothing, badLength, faultsIn, Scheme, productWith, field, concat}
 use Rattle.pair_model.specs.Tape.{dealLayout}
 use Rattle.pair_model.specs.Frame.{Parameters, parameters, dealKind, openKind, maskKind, shareKind, frame, kindOf, bodyOf, openLayout, frameBytes}
 use Rattle.pair_model.specs.Header.{readHeader, refusedWith, kindRead, sideRead, sessionRead}
@@ -88,18 +88,18 @@ module _ (S : Scheme) where
 
   -- ---- the beginning
 
-  unfoldable pub beginConditions : ℕ → List ℕ → List ℕ → List Condition
-  beginConditions side key label =
-      1 when not (eqb (length key) (S .keyBytes)) ∷ 1 when not (eqb (length label) (S .keyBytes)) ∷ 2 when ltb 1 side ∷ []
+  unfoldable pub beginConditions : Parameters → List ℕ → List ℕ → List Condition
+  beginConditions t key label =
+      1 when not (eqb (length key) (S .keyBytes)) ∷ 1 when not (eqb (length label) (S .keyBytes)) ∷ 2 when ltb 1 (t .side) ∷ []
 
-  abbrev pub beginNumber : ℕ → List ℕ → List ℕ → ℕ
-  beginNumber side key label = first (beginConditions side key label)
+  abbrev pub beginNumber : Parameters → List ℕ → List ℕ → ℕ
+  beginNumber t key label = first (beginConditions t key label)
 
   -- a refused beginning gives an idle state
-  unfoldable pub begin : ℕ → ℕ → List ℕ → List ℕ → Beginning
-  begin side session key label =
-      let number = beginNumber side key label in
-      record { result = number; next = cond (eqb number 0) (begun (parameters side session) key label) idle }
+  unfoldable pub begin : Parameters → List ℕ → List ℕ → Beginning
+  begin t key label =
+      let number = beginNumber t key label in
+      record { result = number; next = cond (eqb number 0) (begun t key label) idle }
 
   -- ---- what a unit computes
 
@@ -108,21 +108,21 @@ module _ (S : Scheme) where
   addIfSide0 side a b = cond (eqb side 0) (addBits (S .innerBytes) a b) a
 
   -- ŵi = K̂ × x̃i + K̃i × x̂ + zi modulo 2; side 0 also adds K̂ × x̂
-  unfoldable pub maskOf : List ℕ → ℕ → (K̂ x̂ K̃ x̃ z : List ℕ) → List ℕ
-  maskOf file side K̂ x̂ K̃ x̃ z =
+  unfoldable pub maskOf : Files → ℕ → (K̂ x̂ K̃ x̃ z : List ℕ) → List ℕ
+  maskOf lent side K̂ x̂ K̃ x̃ z =
       addIfSide0 side
-      (addBits (S .innerBytes) (addBits (S .innerBytes) (S .product file K̂ x̃) (S .product file K̃ x̂)) z)
-      (S .product file K̂ x̂)
+      (addBits (S .innerBytes) (addBits (S .innerBytes) (productWith S lent K̂ x̃) (productWith S lent K̃ x̂)) z)
+      (productWith S lent K̂ x̂)
 
   -- the code share, of ŵ and the unit's r
-  unfoldable pub shareOf : List ℕ → ℕ → (ŵ r : List ℕ) → List ℕ
-  shareOf file side ŵ r = codeOf S file (innerShare (S .innerBytes) side ŵ r)
+  unfoldable pub shareOf : Files → ℕ → (ŵ r : List ℕ) → List ℕ
+  shareOf lent side ŵ r = codeOf S lent (innerShare (S .innerBytes) side ŵ r)
 
   -- ---- the number of a step
 
-  -- a step reads the file exactly when the frame has a first byte and it is 3 (or 2, of a product that reads the file)
-  unfoldable pub readsFile : List ℕ → Bool
-  readsFile f = cond (S .productReads) (eqb (kindOf f) maskKind || eqb (kindOf f) openKind) (eqb (kindOf f) maskKind)
+  -- what a step reads of its files, by the frame's first byte: at 3 what is read for the rows, at 2 for the product, and else nothing
+  abbrev pub stepReading : ℕ → Reading
+  stepReading kind = cond (eqb kind maskKind) (S .rowsReading) (cond (eqb kind openKind) (S .productReading) readsNothing)
 
   -- the most that a step may write: an open frame
   abbrev pub leastOutput : ℕ
@@ -132,10 +132,9 @@ module _ (S : Scheme) where
   abbrev pub unfitDeal : List ℕ → Bool
   unfitDeal f = not (fitTrits (S .innerBytes) (8 * S .innerBytes) (field (dealLayout S) 3 (bodyOf f)))
 
-  -- the table's conditions in its order: the lengths of the output slice and of a file that is read
-  abbrev pub lengthConditions : List ℕ → List ℕ → ℕ → List Condition
-  lengthConditions f file outputLength =
-      1 when ltb outputLength leastOutput ∷ 1 when (readsFile f && not (eqb (length file) (S .fileBytes))) ∷ []
+  -- the table's conditions in its order: the lengths of the output slice and of what is read of the files
+  abbrev pub lengthConditions : List ℕ → Files → ℕ → List Condition
+  lengthConditions f lent outputLength = 1 when ltb outputLength leastOutput ∷ 1 when badLength (stepReading (kindOf f)) lent ∷ []
 
   -- what the frame is read to, by the unit's parameters and stage alone: no half and nothing of a deal is read
   abbrev pub headerConditions : Parameters → ℕ → List ℕ → List Condition
@@ -143,21 +142,21 @@ module _ (S : Scheme) where
       let h = readHeader S dealKind maskKind f in
       3 when refusedWith 3 h
       ∷ 4 when refusedWith 4 h
-      ∷ 5 when not (eqb (sessionRead h) (t .session))
+      ∷ 5 when not (eqb (sessionRead h) (t .shared .session))
       ∷ 6 when not (eqb (sideRead h) (expectedSide (kindRead h) (t .side)))
       ∷ 7 when not (eqb (kindRead h) stage)
       ∷ []
 
-  -- what the frame brings: the file that is read, or the trits of a deal
-  abbrev pub contentConditions : List ℕ → List ℕ → List Condition
-  contentConditions f file = onlyIf (readsFile f) (S .faults file) ++ onlyIf (eqb (kindOf f) dealKind) (10 when unfitDeal f ∷ [])
+  -- what the frame brings: the files that are read, or the trits of a deal
+  abbrev pub contentConditions : List ℕ → Files → List Condition
+  contentConditions f lent = faultsIn (stepReading (kindOf f)) lent ++ onlyIf (eqb (kindOf f) dealKind) (10 when unfitDeal f ∷ [])
 
-  unfoldable pub stepConditions : Parameters → ℕ → List ℕ → List ℕ → ℕ → List Condition
-  stepConditions t stage f file outputLength =
-      lengthConditions f file outputLength ++ headerConditions t stage f ++ contentConditions f file
+  unfoldable pub stepConditions : Parameters → ℕ → List ℕ → Files → ℕ → List Condition
+  stepConditions t stage f lent outputLength =
+      lengthConditions f lent outputLength ++ headerConditions t stage f ++ contentConditions f lent
 
-  abbrev pub stepNumber : Parameters → ℕ → List ℕ → List ℕ → ℕ → ℕ
-  stepNumber t stage f file outputLength = first (stepConditions t stage f file outputLength)
+  abbrev pub stepNumber : Parameters → ℕ → List ℕ → Files → ℕ → ℕ
+  stepNumber t stage f lent outputLength = first (stepConditions t stage f lent outputLength)
 
   -- ---- steps
 
@@ -208,26 +207,26 @@ module _ (S : Scheme) where
       })
 
   -- it takes the other's open frame, and writes its mask frame
-  unfoldable pub takeOpen : State → List ℕ → List ℕ → Stepped
-  takeOpen u body file =
-      let ŵi = maskOf file (u .parameters .side) (K̂ u body) (x̂ u body) (u .secrets .keyMask) (u .secrets .labelMask) (u .secrets .z) in
+  unfoldable pub takeOpen : State → List ℕ → Files → Stepped
+  takeOpen u body lent =
+      let ŵi = maskOf lent (u .parameters .side) (K̂ u body) (x̂ u body) (u .secrets .keyMask) (u .secrets .labelMask) (u .secrets .z) in
       record { result = 0; written = frame maskKind (u .parameters) ŵi; next = withMask u ŵi }
 
   -- it takes the other's mask frame, writes its share frame and is done; ŵ = ŵ0 + ŵ1
-  unfoldable pub takeMask : State → List ℕ → List ℕ → Stepped
-  takeMask u body file =
+  unfoldable pub takeMask : State → List ℕ → Files → Stepped
+  takeMask u body lent =
       record {
         result = 0;
-        written = frame shareKind (u .parameters) (shareOf file (u .parameters .side) (addBits (S .innerBytes) (u .secrets .ownMask) body) (u .secrets .r));
+        written = frame shareKind (u .parameters) (shareOf lent (u .parameters .side) (addBits (S .innerBytes) (u .secrets .ownMask) body) (u .secrets .r));
         next = done (u .parameters);
       }
 
   -- by what the unit waits for
-  unfoldable pub advance : State → List ℕ → List ℕ → Stepped
-  advance u body file =
-      cond (eqb (u .stage) dealKind) (takeDeal u body) (cond (eqb (u .stage) openKind) (takeOpen u body file) (takeMask u body file))
+  unfoldable pub advance : State → List ℕ → Files → Stepped
+  advance u body lent =
+      cond (eqb (u .stage) dealKind) (takeDeal u body) (cond (eqb (u .stage) openKind) (takeOpen u body lent) (takeMask u body lent))
 
-  unfoldable pub step : State → List ℕ → List ℕ → ℕ → Stepped
-  step u f file outputLength =
-      let number = stepNumber (u .parameters) (u .stage) f file outputLength in
-      cond (eqb number 0) (advance u (bodyOf f) file) (refused number u)
+  unfoldable pub step : State → List ℕ → Files → ℕ → Stepped
+  step u f lent outputLength =
+      let number = stepNumber (u .parameters) (u .stage) f lent outputLength in
+      cond (eqb number 0) (advance u (bodyOf f) lent) (refused number u)

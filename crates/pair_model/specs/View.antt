@@ -2,21 +2,21 @@
 use Prim.Native.Nat.{ℕ}
 use mathlib.Core.List.{List, [], _∷_}
 use Rattle.pair_model.specs.Unit.{State}
-use Rattle.pair_model.specs.Scheme.{Side, side0, side1, sideByte}
+use Rattle.pair_model.specs.Scheme.{Files, Side, side0, side1}
+use Rattle.pair_model.specs.Frame.{Parameters, parametersOf}
 use Rattle.pair_model.specs.Run.{Protocol, Run, Configuration, Entry, begunUnit, start, frameOf, stepOf, next}
 
--- one of its steps, refused or not: the frame and file handed in, the result, the bytes written and the state afterwards
+-- one of its steps, refused or not: the frame and files handed in, the result, the bytes written and the state afterwards
 pub record Event : Type 0 where
   pub frame : List ℕ
-  pub file : List ℕ
+  pub files : Files
   pub result : ℕ
   pub written : List ℕ
   pub after : State
 
 -- what it was begun with, its state then, and its own steps
 pub record View : Type 0 where
-  pub side : ℕ
-  pub session : ℕ
+  pub parameters : Parameters
   pub key : List ℕ
   pub label : List ℕ
   pub begun : State
@@ -34,7 +34,7 @@ module _ (P : Protocol) where
   eventOf run c e =
       record {
         frame = frameOf P run c (e .side) (e .delivery);
-        file = e .file;
+        files = e .files;
         result = stepOf P run c e .result;
         written = stepOf P run c e .written;
         after = stepOf P run c e .next;
@@ -47,8 +47,7 @@ module _ (P : Protocol) where
   unfoldable pub view : Side → Run → List Entry → View
   view i run es =
       record {
-        side = sideByte i;
-        session = run .inputs .session;
+        parameters = parametersOf i (run .inputs .shared);
         key = run .inputs .key i;
         label = run .inputs .label i;
         begun = begunUnit P (run .inputs) i;

@@ -6,7 +6,7 @@ use lib.Dec.{ltb, eqb}
 use lib.ListN.{length}
 use Rattle.numbers.specs.Number.{Condition, _when_, first}
 use Rattle.matrix_model.specs.File.{badCheck, badLayout, badTrit, zeroRow}
-use Rattle.pair_model.specs.Scheme.{Scheme, Side, side0, side1, total, layoutBytes, field}
+use Rattle.pair_model.specs.Scheme.{files, Scheme, Side, side0, side1, total, layoutBytes, field}
 use Rattle.pair_model.specs.Base.{base}
 use Rattle.pair_model.specs.Tape.{tapeBytes, unfitTape}
 use Rattle.pair_model.specs.Frame.{codeBytes}
@@ -15,7 +15,7 @@ use Rattle.pair_model.specs.Evaluator.{code}
 module _ (S : Scheme) where
   -- two key halves, two label halves, tape, matrix file
   abbrev pub inputLayout : List ℕ
-  inputLayout = S .keyBytes ∷ S .keyBytes ∷ S .keyBytes ∷ S .keyBytes ∷ tapeBytes S ∷ S .fileBytes ∷ []
+  inputLayout = S .keyBytes ∷ S .keyBytes ∷ S .keyBytes ∷ S .keyBytes ∷ tapeBytes S ∷ S .rowsReading .bytes ∷ []
 
   abbrev pub inputBytes : ℕ
   inputBytes = layoutBytes inputLayout
@@ -36,7 +36,7 @@ module _ (S : Scheme) where
 
   -- the evaluator's code of the summed halves
   unfoldable pub runCode : List ℕ → List ℕ
-  runCode input = code S (total (S .keyBytes) (inputKey input)) (total (S .keyBytes) (inputLabel input)) (inputFile input)
+  runCode input = code S (total (S .keyBytes) (inputKey input)) (total (S .keyBytes) (inputLabel input)) (files (inputFile input))
 
 -- the lowest number over all of it
 unfoldable pub runConditions : List ℕ → ℕ → List Condition

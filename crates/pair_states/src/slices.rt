@@ -4,6 +4,7 @@ ghost use mathlib.Core.List.{_++_};
 ghost use Prim.Native.Nat.{_+_, _≤_};
 ghost use lib.ListN.{length, take, drop};
 ghost use Rattle.numbers.specs.Number.{atFront};
+ghost use Rattle.pair_model.specs.Scheme.{files};
 ghost use Rattle.pair_model.specs.Base.{base};
 ghost use Rattle.pair_model.specs.Frame.{parameters, kindOf, sideOf, sessionOf, bodyOf};
 ghost use Rattle.pair_model.specs.Unit.{advance, stepNumber};
@@ -99,15 +100,15 @@ pub fn decode(s: &[u8]) -> UnitState
 pub fn advance_slice(state: &mut [u8], f: &[u8], file: &[u8], out: &mut [u8]) -> usize
     requires { ⌜
         (length (now state) ≡ stateBytes base)
-        × (stepNumber base (parameters (sideOf (now state)) (sessionOf (now state))) (kindOf (now state)) (now f) (now file) (length (now out)) ≡ 0)
+        × (stepNumber base (parameters (sideOf (now state)) (sessionOf (now state))) (kindOf (now state)) (now f) (files (now file)) (length (now out)) ≡ 0)
         ⌝ }
-    ensures count { λ r. ⌜ r ≡ length (advance base (decodeState base (now (state .entry))) (bodyOf (now (f .entry))) (now (file .entry)) .written) ⌝ }
+    ensures count { λ r. ⌜ r ≡ length (advance base (decodeState base (now (state .entry))) (bodyOf (now (f .entry))) (files (now (file .entry))) .written) ⌝ }
     ensures state { λ _. ⌜
-        now (state .exit) ≡ encodeState (advance base (decodeState base (now (state .entry))) (bodyOf (now (f .entry))) (now (file .entry)) .next)
+        now (state .exit) ≡ encodeState (advance base (decodeState base (now (state .entry))) (bodyOf (now (f .entry))) (files (now (file .entry))) .next)
         ⌝ }
     ensures output { λ _. ⌜
         now (out .exit) ≡
-        atFront (advance base (decodeState base (now (state .entry))) (bodyOf (now (f .entry))) (now (file .entry)) .written) (now (out .entry))
+        atFront (advance base (decodeState base (now (state .entry))) (bodyOf (now (f .entry))) (files (now (file .entry))) .written) (now (out .entry))
         ⌝ }
 {
     if state[0] == WAITS_FOR_DEAL {

@@ -12,7 +12,7 @@ abbrev pub unitOf : State → UnitState
 unitOf s =
     record {
       side = s .parameters .side;
-      session = s .parameters .session;
+      session = s .parameters .shared .session;
       stage = s .stage;
       key = s .secrets .key;
       label = s .secrets .label;

@@ -1,4 +1,5 @@
 // The beginning of a unit, and states without a deal.
+ghost use Prim.Native.Nat.{ℕ};
 ghost use mathlib.Core.Path.{_≡_};
 ghost use Rattle.pair_model.specs.Base.{base};
 ghost use Rattle.pair_model.specs.Frame.{parameters};
@@ -56,7 +57,7 @@ pub struct Begun {
 
 // The number of a beginning.
 fn begin_number(side: u32, key: &[u8], label: &[u8]) -> u32
-    ensures { λ r. ⌜ r ≡ beginNumber base side (now (key .entry)) (now (label .entry)) ⌝ }
+    ensures { λ r. ⌜ ((session : ℕ) → r ≡ beginNumber base (parameters side session) (now (key .entry)) (now (label .entry))) ⌝ }
 {
     if key.len() != KEY_BYTES {
         return WRONG_LENGTH;
@@ -70,8 +71,8 @@ fn begin_number(side: u32, key: &[u8], label: &[u8]) -> u32
 // A unit of this side and session with these halves, or the idle state. Beginnings of runs are accepted, and the state that is given
 // stands in the view that `Privacy` speaks of.
 pub fn begin(side: u32, session: u32, key: &[u8], label: &[u8]) -> Begun
-    ensures result { λ b. ⌜ b .result ≡ begin base side session (now (key .entry)) (now (label .entry)) .result ⌝ }
-    ensures next { λ b. ⌜ b .next ≡ unitOf (begin base side session (now (key .entry)) (now (label .entry)) .next) ⌝ }
+    ensures result { λ b. ⌜ b .result ≡ begin base (parameters side session) (now (key .entry)) (now (label .entry)) .result ⌝ }
+    ensures next { λ b. ⌜ b .next ≡ unitOf (begin base (parameters side session) (now (key .entry)) (now (label .entry)) .next) ⌝ }
     ensures begins { λ _. ⌜ Begins (protocol base) ⌝ }
     ensures privacy { λ _. ⌜ Privacy (protocol base) ⌝ }
 {

@@ -1,12 +1,12 @@
 // What a unit does at a frame that is accepted.
 ghost use mathlib.Core.Path.{_≡_};
-ghost use mathlib.Core.List.{[]};
 ghost use mathlib.Core.Bool.{cond};
 ghost use Prim.Native.Nat.{_≤_};
 ghost use lib.Dec.{eqb};
 ghost use lib.ListN.{length};
 ghost use Rattle.linear_model.specs.Bits.{addBits};
 ghost use Rattle.numbers.specs.Number.{atFront};
+ghost use Rattle.pair_model.specs.Scheme.{files, noFiles};
 ghost use Rattle.pair_model.specs.Base.{base};
 ghost use Rattle.pair_model.specs.Frame.{parameters, dealKind, openKind, maskKind, shareKind, frameBytes, bodyOf};
 ghost use Rattle.pair_model.specs.Unit.{maskOf, takeDeal, takeOpen, takeMask, advance, stepNumber};
@@ -89,7 +89,7 @@ fn mask_of(
     label_mask: [u8; KEY_BYTES],
     z: [u8; INNER_BYTES],
 ) -> [u8; INNER_BYTES]
-    ensures { λ r. ⌜ r ≡ maskOf base [] side «key_hat» «label_hat» «key_mask» «label_mask» z ⌝ }
+    ensures { λ r. ⌜ r ≡ maskOf base noFiles side «key_hat» «label_hat» «key_mask» «label_mask» z ⌝ }
 {
     let factor = label_factor(side, label_hat, label_mask);
     let crossed = sum_32(product_32(key_hat, factor), product_32(key_mask, label_hat));
@@ -99,8 +99,8 @@ fn mask_of(
 // It takes the other's open frame, and writes its mask frame.
 fn take_open(u: UnitState, f: &[u8], out: &mut [u8]) -> UnitState
     requires { ⌜ (length (now f) ≡ frameBytes base openKind) × (frameBytes base openKind ≤ length (now out)) ⌝ }
-    ensures next { λ r. ⌜ r ≡ unitOf (takeOpen base (stateOf u) (bodyOf (now (f .entry))) [] .next) ⌝ }
-    ensures output { λ _. ⌜ now (out .exit) ≡ atFront (takeOpen base (stateOf u) (bodyOf (now (f .entry))) [] .written) (now (out .entry)) ⌝ }
+    ensures next { λ r. ⌜ r ≡ unitOf (takeOpen base (stateOf u) (bodyOf (now (f .entry))) noFiles .next) ⌝ }
+    ensures output { λ _. ⌜ now (out .exit) ≡ atFront (takeOpen base (stateOf u) (bodyOf (now (f .entry))) noFiles .written) (now (out .entry)) ⌝ }
 {
     let other = read_open(f);
     let key = u.key;
@@ -132,11 +132,11 @@ fn take_open(u: UnitState, f: &[u8], out: &mut [u8]) -> UnitState
 // It takes the other's mask frame, writes its share frame and is done.
 pub fn take_mask(u: UnitState, f: &[u8], file: &[u8], out: &mut [u8]) -> UnitState
     requires { ⌜
-        (length (now f) ≡ frameBytes base maskKind) × (frameBytes base shareKind ≤ length (now out)) × (length (now file) ≡ base .fileBytes)
+        (length (now f) ≡ frameBytes base maskKind) × (frameBytes base shareKind ≤ length (now out)) × (length (now file) ≡ base .rowsReading .bytes)
         ⌝ }
-    ensures next { λ r. ⌜ r ≡ unitOf (takeMask base (stateOf u) (bodyOf (now (f .entry))) (now (file .entry)) .next) ⌝ }
+    ensures next { λ r. ⌜ r ≡ unitOf (takeMask base (stateOf u) (bodyOf (now (f .entry))) (files (now (file .entry))) .next) ⌝ }
     ensures output { λ _. ⌜
-        now (out .exit) ≡ atFront (takeMask base (stateOf u) (bodyOf (now (f .entry))) (now (file .entry)) .written) (now (out .entry))
+        now (out .exit) ≡ atFront (takeMask base (stateOf u) (bodyOf (now (f .entry))) (files (now (file .entry))) .written) (now (out .entry))
         ⌝ }
 {
     let own_mask = u.own_mask;
@@ -157,11 +157,11 @@ pub struct Advanced {
 
 // A frame that is accepted, by what the unit waits for.
 pub fn advance(u: UnitState, f: &[u8], file: &[u8], out: &mut [u8]) -> Advanced
-    requires { ⌜ stepNumber base (parameters (u .side) (u .session)) (u .stage) (now f) (now file) (length (now out)) ≡ 0 ⌝ }
-    ensures count { λ r. ⌜ r .written ≡ length (advance base (stateOf u) (bodyOf (now (f .entry))) (now (file .entry)) .written) ⌝ }
-    ensures next { λ r. ⌜ r .next ≡ unitOf (advance base (stateOf u) (bodyOf (now (f .entry))) (now (file .entry)) .next) ⌝ }
+    requires { ⌜ stepNumber base (parameters (u .side) (u .session)) (u .stage) (now f) (files (now file)) (length (now out)) ≡ 0 ⌝ }
+    ensures count { λ r. ⌜ r .written ≡ length (advance base (stateOf u) (bodyOf (now (f .entry))) (files (now (file .entry))) .written) ⌝ }
+    ensures next { λ r. ⌜ r .next ≡ unitOf (advance base (stateOf u) (bodyOf (now (f .entry))) (files (now (file .entry))) .next) ⌝ }
     ensures output { λ _. ⌜
-        now (out .exit) ≡ atFront (advance base (stateOf u) (bodyOf (now (f .entry))) (now (file .entry)) .written) (now (out .entry))
+        now (out .exit) ≡ atFront (advance base (stateOf u) (bodyOf (now (f .entry))) (files (now (file .entry))) .written) (now (out .entry))
         ⌝ }
 {
     let stage = u.stage;

@@ -2,6 +2,7 @@
 ghost use mathlib.Core.Path.{_≡_};
 ghost use lib.ListN.{length};
 ghost use Rattle.numbers.specs.Number.{atFront};
+ghost use Rattle.pair_model.specs.Scheme.{files};
 ghost use Rattle.pair_model.specs.Base.{base};
 ghost use Rattle.pair_model.specs.Unit.{step};
 ghost use Rattle.pair_model.specs.Run.{protocol};
@@ -24,13 +25,13 @@ impl UnitState {
     // One frame: the number, how much was written to `out`, and the next state. The last four clauses are the theorem over all lists
     // of steps and what shows that it says something, so that no part can be dropped unseen.
     pub fn step(self, f: &[u8], file: &[u8], out: &mut [u8]) -> Stepped
-        ensures result { λ r. ⌜ r .result ≡ step base (stateOf self) (now (f .entry)) (now (file .entry)) (length (now (out .entry))) .result ⌝ }
+        ensures result { λ r. ⌜ r .result ≡ step base (stateOf self) (now (f .entry)) (files (now (file .entry))) (length (now (out .entry))) .result ⌝ }
         ensures count { λ r. ⌜
-            r .written ≡ length (step base (stateOf self) (now (f .entry)) (now (file .entry)) (length (now (out .entry))) .written)
+            r .written ≡ length (step base (stateOf self) (now (f .entry)) (files (now (file .entry))) (length (now (out .entry))) .written)
             ⌝ }
-        ensures next { λ r. ⌜ r .next ≡ unitOf (step base (stateOf self) (now (f .entry)) (now (file .entry)) (length (now (out .entry))) .next) ⌝ }
+        ensures next { λ r. ⌜ r .next ≡ unitOf (step base (stateOf self) (now (f .entry)) (files (now (file .entry))) (length (now (out .entry))) .next) ⌝ }
         ensures output { λ _. ⌜
-            now (out .exit) ≡ atFront (step base (stateOf self) (now (f .entry)) (now (file .entry)) (length (now (out .entry))) .written) (now (out .entry))
+            now (out .exit) ≡ atFront (step base (stateOf self) (now (f .entry)) (files (now (file .entry))) (length (now (out .entry))) .written) (now (out .entry))
             ⌝ }
         ensures correctness { λ _. ⌜ Correctness (protocol base) ⌝ }
         ensures privacy { λ _. ⌜ Privacy (protocol base) ⌝ }

@@ -1,13 +1,12 @@
 // What the program does as one call: the dealer and both units in session 1, frame by frame, and the counter's sum. What must be
 // accepted is not judged again: the file is checked once, and no branch depends on the shares.
 ghost use mathlib.Core.Path.{_≡_};
-ghost use mathlib.Core.List.{[]};
 ghost use lib.ListN.{length, take};
 ghost use Rattle.numbers.specs.Number.{output};
-ghost use Rattle.pair_model.specs.Scheme.{side0, side1};
+ghost use Rattle.pair_model.specs.Scheme.{files, noFiles, side0, side1};
 ghost use Rattle.pair_model.specs.Base.{base};
 ghost use Rattle.pair_model.specs.Dealer.{dealFrame};
-ghost use Rattle.pair_model.specs.Frame.{parameters, maskKind, frameBytes, codeBytes, bodyOf};
+ghost use Rattle.pair_model.specs.Frame.{sharedParameters, parameters, maskKind, frameBytes, codeBytes, bodyOf};
 ghost use Rattle.pair_model.specs.Unit.{begin, leastOutput, stepNumber, step, takeMask};
 ghost use Rattle.pair_model.specs.WholeRun.{inputKey, inputLabel, inputTape, inputFile, runNumber, runCode};
 ghost use Rattle.pair_model.specs.Internal.Exchange.{Sends, RunFits};
@@ -41,8 +40,8 @@ struct Sent {
 
 // A step at a frame that is accepted, so that it is not judged again.
 fn send(u: UnitState, f: &[u8], file: &[u8]) -> Sent
-    requires { ⌜ stepNumber base (parameters (u .side) (u .session)) (u .stage) (now f) (now file) (leastOutput base) ≡ 0 ⌝ }
-    ensures { λ r. ⌜ Sends (step base (stateOf u) (now (f .entry)) (now (file .entry)) (leastOutput base)) (r .frame) (stateOf (r .next)) ⌝ }
+    requires { ⌜ stepNumber base (parameters (u .side) (u .session)) (u .stage) (now f) (files (now file)) (leastOutput base) ≡ 0 ⌝ }
+    ensures { λ r. ⌜ Sends (step base (stateOf u) (now (f .entry)) (files (now (file .entry))) (leastOutput base)) (r .frame) (stateOf (r .next)) ⌝ }
 {
     let mut frame = [0u8; OPEN_FRAME_BYTES];
     let a = advance(u, f, file, &mut frame);
@@ -81,11 +80,11 @@ fn both(first: Sent, second: Sent) -> Round
 // Each unit takes what the other has sent.
 fn exchange(b: Round, file: &[u8]) -> Round
     requires { ⌜
-        (stepNumber base (parameters (b .next0 .side) (b .next0 .session)) (b .next0 .stage) (b .frame1) (now file) (leastOutput base) ≡ 0)
-        × (stepNumber base (parameters (b .next1 .side) (b .next1 .session)) (b .next1 .stage) (b .frame0) (now file) (leastOutput base) ≡ 0)
+        (stepNumber base (parameters (b .next0 .side) (b .next0 .session)) (b .next0 .stage) (b .frame1) (files (now file)) (leastOutput base) ≡ 0)
+        × (stepNumber base (parameters (b .next1 .side) (b .next1 .session)) (b .next1 .stage) (b .frame0) (files (now file)) (leastOutput base) ≡ 0)
         ⌝ }
-    ensures first { λ r. ⌜ Sends (step base (stateOf (b .next0)) (b .frame1) (now (file .entry)) (leastOutput base)) (r .frame0) (stateOf (r .next0)) ⌝ }
-    ensures second { λ r. ⌜ Sends (step base (stateOf (b .next1)) (b .frame0) (now (file .entry)) (leastOutput base)) (r .frame1) (stateOf (r .next1)) ⌝ }
+    ensures first { λ r. ⌜ Sends (step base (stateOf (b .next0)) (b .frame1) (files (now (file .entry))) (leastOutput base)) (r .frame0) (stateOf (r .next0)) ⌝ }
+    ensures second { λ r. ⌜ Sends (step base (stateOf (b .next1)) (b .frame0) (files (now (file .entry))) (leastOutput base)) (r .frame1) (stateOf (r .next1)) ⌝ }
 {
     let sent0 = b.frame0;
     let sent1 = b.frame1;
@@ -99,11 +98,11 @@ fn exchange(b: Round, file: &[u8]) -> Round
 // The beginning of unit `side` and its step at the deal.
 fn start(side: u32, key: &[u8], label: &[u8], f: &[u8], file: &[u8]) -> Sent
     requires { ⌜
-        stepNumber base (begin base side 1 (now key) (now label) .next .parameters) (begin base side 1 (now key) (now label) .next .stage)
-        (now f) (now file) (leastOutput base) ≡ 0
+        stepNumber base (begin base (parameters side 1) (now key) (now label) .next .parameters) (begin base (parameters side 1) (now key) (now label) .next .stage)
+        (now f) (files (now file)) (leastOutput base) ≡ 0
         ⌝ }
     ensures { λ r. ⌜
-        Sends (step base (begin base side 1 (now (key .entry)) (now (label .entry)) .next) (now (f .entry)) (now (file .entry)) (leastOutput base))
+        Sends (step base (begin base (parameters side 1) (now (key .entry)) (now (label .entry)) .next) (now (f .entry)) (files (now (file .entry))) (leastOutput base))
         (r .frame) (stateOf (r .next))
         ⌝ }
 {
@@ -117,14 +116,14 @@ fn first_round(input: &[u8]) -> Round
     requires { ⌜ RunFits (now input) (codeBytes base) ⌝ }
     ensures first { λ r. ⌜
         Sends
-        (step base (begin base 0 1 (inputKey base (now (input .entry)) side0) (inputLabel base (now (input .entry)) side0) .next)
-        (dealFrame base 1 [] (inputTape base (now (input .entry))) side0) (inputFile base (now (input .entry))) (leastOutput base))
+        (step base (begin base (parameters 0 1) (inputKey base (now (input .entry)) side0) (inputLabel base (now (input .entry)) side0) .next)
+        (dealFrame base (sharedParameters 1) noFiles (inputTape base (now (input .entry))) side0) (files (inputFile base (now (input .entry)))) (leastOutput base))
         (r .frame0) (stateOf (r .next0))
         ⌝ }
     ensures second { λ r. ⌜
         Sends
-        (step base (begin base 1 1 (inputKey base (now (input .entry)) side1) (inputLabel base (now (input .entry)) side1) .next)
-        (dealFrame base 1 [] (inputTape base (now (input .entry))) side1) (inputFile base (now (input .entry))) (leastOutput base))
+        (step base (begin base (parameters 1 1) (inputKey base (now (input .entry)) side1) (inputLabel base (now (input .entry)) side1) .next)
+        (dealFrame base (sharedParameters 1) noFiles (inputTape base (now (input .entry))) side1) (files (inputFile base (now (input .entry)))) (leastOutput base))
         (r .frame1) (stateOf (r .next1))
         ⌝ }
 {
@@ -150,8 +149,8 @@ fn first_round(input: &[u8]) -> Round
 
 // A unit's share frame: what its step writes at the mask frame in the front of what the other has sent.
 fn share_frame(u: UnitState, sent: [u8; OPEN_FRAME_BYTES], file: &[u8]) -> [u8; SHARE_FRAME_BYTES]
-    requires { ⌜ length (now file) ≡ base .fileBytes ⌝ }
-    ensures { λ r. ⌜ r ≡ takeMask base (stateOf u) (bodyOf (take (frameBytes base maskKind) sent)) (now (file .entry)) .written ⌝ }
+    requires { ⌜ length (now file) ≡ base .rowsReading .bytes ⌝ }
+    ensures { λ r. ⌜ r ≡ takeMask base (stateOf u) (bodyOf (take (frameBytes base maskKind) sent)) (files (now (file .entry))) .written ⌝ }
 {
     let mut frame = [0u8; SHARE_FRAME_BYTES];
     take_mask(u, &sent[0..MASK_FRAME_BYTES], file, &mut frame);

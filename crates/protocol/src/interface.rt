@@ -1,11 +1,12 @@
 // The C interface but for the units: each function is total over slices, answers a number of the table, and neither allocates nor
 // keeps a pointer.
 ghost use mathlib.Core.Path.{_≡_};
-ghost use mathlib.Core.List.{[]};
 ghost use lib.ListN.{length};
 ghost use Rattle.numbers.specs.Number.{output, reported};
 ghost use Rattle.matrix_model.specs.File.{checkNumber, readNumber, writeNumber, readOutput, writeOutput};
+ghost use Rattle.pair_model.specs.Scheme.{files, noFiles};
 ghost use Rattle.pair_model.specs.Base.{base};
+ghost use Rattle.pair_model.specs.Frame.{sharedParameters};
 ghost use Rattle.pair_model.specs.Sampler.{sampled, used, sampleNumber};
 ghost use Rattle.pair_model.specs.Dealer.{dealt, dealNumber, dealSourceNumber, TakesAccepted};
 ghost use Rattle.pair_model.specs.Run.{protocol};
@@ -52,10 +53,10 @@ pub extern "C" fn pair_matrix_read(file: &[u8], out: &mut [u8]) -> u32
 // The code of a key and a label.
 #[no_mangle]
 pub extern "C" fn pair_evaluate(key: &[u8], label: &[u8], file: &[u8], out: &mut [u8]) -> u32
-    ensures result { λ r. ⌜ r ≡ evaluateNumber base (now (key .entry)) (now (label .entry)) (now (file .entry)) (length (now (out .entry))) ⌝ }
+    ensures result { λ r. ⌜ r ≡ evaluateNumber base (now (key .entry)) (now (label .entry)) (files (now (file .entry))) (length (now (out .entry))) ⌝ }
     ensures output { λ r. ⌜
         now (out .exit) ≡
-        output r (code base (now (key .entry)) (now (label .entry)) (now (file .entry))) (now (out .entry))
+        output r (code base (now (key .entry)) (now (label .entry)) (files (now (file .entry)))) (now (out .entry))
         ⌝ }
 {
     evaluate(key, label, file, out)
@@ -76,8 +77,8 @@ pub extern "C" fn pair_sample(source: &[u8], out: &mut [u8], count: &mut u64) ->
 // Both deal frames of a tape.
 #[no_mangle]
 pub extern "C" fn pair_deal(session: u32, tape: &[u8], out: &mut [u8]) -> u32
-    ensures result { λ r. ⌜ r ≡ dealNumber base (now (tape .entry)) (length (now (out .entry))) ⌝ }
-    ensures output { λ r. ⌜ now (out .exit) ≡ output r (dealt base session [] (now (tape .entry))) (now (out .entry)) ⌝ }
+    ensures result { λ r. ⌜ r ≡ dealNumber base noFiles (now (tape .entry)) (length (now (out .entry))) ⌝ }
+    ensures output { λ r. ⌜ now (out .exit) ≡ output r (dealt base (sharedParameters session) noFiles (now (tape .entry))) (now (out .entry)) ⌝ }
     ensures accepted_tapes { λ _. ⌜ TakesAccepted base ⌝ }
     ensures privacy { λ _. ⌜ Privacy (protocol base) ⌝ }
 {
@@ -92,10 +93,10 @@ pub extern "C" fn pair_deal_source(
     out: &mut [u8],
     count: &mut u64,
 ) -> u32
-    ensures result { λ r. ⌜ r ≡ dealSourceNumber base (now (source .entry)) (length (now (out .entry))) ⌝ }
+    ensures result { λ r. ⌜ r ≡ dealSourceNumber base noFiles (now (source .entry)) (length (now (out .entry))) ⌝ }
     ensures count { λ r. ⌜ now (count .exit) ≡ reported r (used base (now (source .entry))) ⌝ }
     ensures output { λ r. ⌜
-        now (out .exit) ≡ output r (dealt base session [] (sampled base (now (source .entry)))) (now (out .entry))
+        now (out .exit) ≡ output r (dealt base (sharedParameters session) noFiles (sampled base (now (source .entry)))) (now (out .entry))
         ⌝ }
     ensures privacy { λ _. ⌜ Privacy (protocol base) ⌝ }
 {

@@ -4,6 +4,7 @@ ghost use mathlib.Core.Path.{_≡_};
 ghost use mathlib.Core.Logic.{_≢_};
 ghost use lib.ListN.{length};
 ghost use Rattle.numbers.specs.Number.{atFront};
+ghost use Rattle.pair_model.specs.Scheme.{files};
 ghost use Rattle.pair_model.specs.Base.{base};
 ghost use Rattle.pair_model.specs.Frame.{parameters};
 ghost use Rattle.pair_model.specs.Unit.{begin, begun, idle};
@@ -31,8 +32,8 @@ pub extern "C" fn pair_begin(
     label: &[u8],
     state: &mut [u8],
 ) -> u32
-    ensures result { λ r. ⌜ r ≡ pairBeginNumber base side (now (key .entry)) (now (label .entry)) (now (state .entry)) ⌝ }
-    ensures state { λ _. ⌜ now (state .exit) ≡ pairBeginState base side session (now (key .entry)) (now (label .entry)) (now (state .entry)) ⌝ }
+    ensures result { λ r. ⌜ r ≡ pairBeginNumber base (parameters side session) (now (key .entry)) (now (label .entry)) (now (state .entry)) ⌝ }
+    ensures state { λ _. ⌜ now (state .exit) ≡ pairBeginState base (parameters side session) (now (key .entry)) (now (label .entry)) (now (state .entry)) ⌝ }
     ensures accepted { λ r. ⌜
         (r ≡ 0 → now (state .exit) ≡ encodeState (begun base (parameters side session) (now (key .entry)) (now (label .entry))))
         ⌝ }
@@ -40,7 +41,7 @@ pub extern "C" fn pair_begin(
     ensures wrong_length { λ r. ⌜ (length (now (state .entry)) ≢ stateBytes base → (r ≡ 1) × (now (state .exit) ≡ now (state .entry))) ⌝ }
     ensures next { λ _. ⌜
         (length (now (state .entry)) ≡ stateBytes base
-        → decodeState base (now (state .exit)) ≡ begin base side session (now (key .entry)) (now (label .entry)) .next)
+        → decodeState base (now (state .exit)) ≡ begin base (parameters side session) (now (key .entry)) (now (label .entry)) .next)
         ⌝ }
     ensures states_fit { λ _. ⌜ StatesFit base ⌝ }
     ensures same_protocol { λ _. ⌜ CallsAreRuns base ⌝ }
@@ -66,21 +67,21 @@ pub extern "C" fn pair_step(
     out: &mut [u8],
     count: &mut u64,
 ) -> u32
-    ensures result { λ r. ⌜ r ≡ pairStepNumber base (now (state .entry)) (now (f .entry)) (now (file .entry)) (length (now (out .entry))) ⌝ }
+    ensures result { λ r. ⌜ r ≡ pairStepNumber base (now (state .entry)) (now (f .entry)) (files (now (file .entry))) (length (now (out .entry))) ⌝ }
     ensures state { λ _. ⌜
-        now (state .exit) ≡ pairStepState base (now (state .entry)) (now (f .entry)) (now (file .entry)) (length (now (out .entry)))
+        now (state .exit) ≡ pairStepState base (now (state .entry)) (now (f .entry)) (files (now (file .entry))) (length (now (out .entry)))
         ⌝ }
     ensures output { λ _. ⌜
         now (out .exit) ≡
-        atFront (pairStepWritten base (now (state .entry)) (now (f .entry)) (now (file .entry)) (length (now (out .entry)))) (now (out .entry))
+        atFront (pairStepWritten base (now (state .entry)) (now (f .entry)) (files (now (file .entry))) (length (now (out .entry)))) (now (out .entry))
         ⌝ }
     ensures count { λ _. ⌜
-        now (count .exit) ≡ length (pairStepWritten base (now (state .entry)) (now (f .entry)) (now (file .entry)) (length (now (out .entry))))
+        now (count .exit) ≡ length (pairStepWritten base (now (state .entry)) (now (f .entry)) (files (now (file .entry))) (length (now (out .entry))))
         ⌝ }
     ensures next { λ _. ⌜
         (length (now (state .entry)) ≡ stateBytes base
         → decodeState base (now (state .exit)) ≡
-        sliceStep base (now (state .entry)) (now (f .entry)) (now (file .entry)) (length (now (out .entry))) .next)
+        sliceStep base (now (state .entry)) (now (f .entry)) (files (now (file .entry))) (length (now (out .entry))) .next)
         ⌝ }
     ensures same_protocol { λ _. ⌜ CallsAreRuns base ⌝ }
     ensures correctness { λ _. ⌜ Correctness (protocol base) ⌝ }

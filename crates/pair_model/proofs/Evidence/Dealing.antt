@@ -2,7 +2,7 @@
 use Prim.Native.Nat.{ℕ, zero, suc, _+_, _-_, _*_, _≤_, _<_}
 use mathlib.Core.Path.{_≡_, refl, sym, ap, _∙_, subst}
 use mathlib.Core.Logic.{_↔_}
-use mathlib.Core.List.{List}
+use mathlib.Core.List.{List, [], _∷_}
 use mathlib.Core.Bool.{Bool, true, false, cond, not}
 use native.Mathlib.Omega.{arith}
 use native.Mathlib.Nat.{le-refl, zero-lt-suc, mod-lt}
@@ -13,36 +13,46 @@ use Rattle.linear_model.specs.Bits.{Bytes}
 use Rattle.linear_model.specs.Trits.{fitTrits, packTrits}
 use Rattle.linear_model.proofs.Strings.{bytes-slice, bytes-append}
 use Rattle.linear_model.proofs.Vectors.{length-packTrits, bytes-packTrits, fit-pack}
-use Rattle.numbers.specs.Number.{first}
-use Rattle.pair_model.specs.Scheme.{Scheme, field}
+use Rattle.numbers.specs.Number.{_when_, first, merge}
+use Rattle.pair_model.specs.Scheme.{Files, faultsIn, readingNumber, Scheme, field}
 use Rattle.pair_model.specs.Tape.{tapeBytes, r0, Accepted}
 use Rattle.source_model.specs.Pair.{pair}
 use Rattle.pair_model.specs.Sampler.{Drawn, found, draw, copiedBytes, wantedTrits, drawn, sampled, sampleConditions, sampleNumber}
 use Rattle.pair_model.specs.Dealer.{dealtBytes, dealConditions, dealNumber}
-use Rattle.numbers.proofs.Numbers.{is-true, denied, equal, at-least, is-equal, is-at-least, none-holds, first-zero}
+use Rattle.numbers.proofs.Numbers.{is-true, denied, equal, at-least, is-equal, is-at-least, Positive, none-holds, first-zero, first-merge}
+use Rattle.pair_model.proofs.Theorem.StepLaws.{fit-length, fit-faults}
 
 -- ---- tapes
 
-module _ (S : Scheme) (tape : List ℕ) (bytes : (i : ℕ) → getD tape i 0 < 256) where
+module _ (S : Scheme) (lent : Files) (positive : Positive (faultsIn (S .productReading) lent)) (fit : readingNumber (S .productReading) lent ≡ 0)
+    (tape : List ℕ) (bytes : (i : ℕ) → getD tape i 0 < 256) where
   abbrev isFit : Bool
   isFit = fitTrits (S .innerBytes) (8 * S .innerBytes) (r0 S tape)
 
+  -- where what is read is fit, the tape alone decides
+  tape-decides : dealNumber S lent tape (dealtBytes S) ≡ first (1 when not (eqb (length tape) (tapeBytes S)) ∷ 10 when not isFit ∷ [])
+  unfolding dealConditions first
+  tape-decides =
+      (λ j. first (1 when not (eqb (length tape) (tapeBytes S)) ∷ 1 when at-least (dealtBytes S) (dealtBytes S) (le-refl (dealtBytes S)) j
+      ∷ 1 when fit-length (S .productReading) lent fit j ∷ merge (faultsIn (S .productReading) lent) (10 when not isFit ∷ [])))
+      ∙ ap (cond (not (eqb (length tape) (tapeBytes S))) 1)
+      (first-merge (faultsIn (S .productReading) lent) (10 when not isFit ∷ [])
+      (none-holds (faultsIn (S .productReading) lent) positive (fit-faults (S .productReading) lent fit)))
+
   -- the dealer takes a tape of bytes exactly if it is accepted
-  pub deal-accepted : (dealNumber S tape (dealtBytes S) ≡ 0) ↔ Accepted S tape
-  unfolding dealConditions
+  pub deal-accepted : (dealNumber S lent tape (dealtBytes S) ≡ 0) ↔ Accepted S tape
   deal-accepted = (forth, back)
     where
-      forth : dealNumber S tape (dealtBytes S) ≡ 0 → Accepted S tape
+      forth : dealNumber S lent tape (dealtBytes S) ≡ 0 → Accepted S tape
       forth e =
-          let h = none-holds (dealConditions S tape (dealtBytes S)) (lit< tt, (lit< tt, (lit< tt, tt))) e in
-          record { bytes = record { size = is-equal (length tape) (tapeBytes S) (h .0); small = bytes }; fit = denied isFit (h .1 .1 .0) }
+          let h = none-holds (1 when not (eqb (length tape) (tapeBytes S)) ∷ 10 when not isFit ∷ []) (lit< tt, (lit< tt, tt)) (sym tape-decides ∙ e) in
+          record { bytes = record { size = is-equal (length tape) (tapeBytes S) (h .0); small = bytes }; fit = denied isFit (h .1 .0) }
 
-      back : Accepted S tape → dealNumber S tape (dealtBytes S) ≡ 0
+      back : Accepted S tape → dealNumber S lent tape (dealtBytes S) ≡ 0
       back h =
-          first-zero (dealConditions S tape (dealtBytes S)) (
-            ap not (equal (length tape) (tapeBytes S) (h .bytes .size)),
-            (at-least (dealtBytes S) (dealtBytes S) (le-refl (dealtBytes S)), (ap not (is-true isFit (h .fit)), tt)),
-          )
+          tape-decides
+          ∙ first-zero (1 when not (eqb (length tape) (tapeBytes S)) ∷ 10 when not isFit ∷ [])
+          (ap not (equal (length tape) (tapeBytes S) (h .bytes .size)), (ap not (is-true isFit (h .fit)), tt))
 
 -- ---- sampled tapes
 

@@ -5,7 +5,7 @@ use mathlib.Core.Logic.{_≢_}
 use mathlib.Core.List.{List}
 use Rattle.linear_model.specs.Bits.{Bytes, addBits}
 use Rattle.linear_model.proofs.Strings.{add-twice}
-use Rattle.pair_model.specs.Scheme.{Scheme, Linear, side0, other}
+use Rattle.pair_model.specs.Scheme.{Files, Scheme, Linear, side0, other}
 use Rattle.pair_model.specs.Tape.{Accepted, w̃, z0, z}
 use Rattle.pair_model.specs.Frame.{frame, header, bodyOf}
 use Rattle.pair_model.specs.Run.{Inputs, WellFormed, runOf}
@@ -45,9 +45,9 @@ known S v =
 
 -- is the inner vector
 knows : (S : Scheme) → Linear S → (a : Inputs) (tape : List ℕ) → WellFormed S a → Accepted S tape → Bytes (S .innerBytes) (innerOf S a)
-    → (file : List ℕ) → file ≡ a .file → known S (view (innerMaskDealt S) side0 (runOf a tape) (five S file)) ≡ innerOf S a
+    → (lent : Files) → lent ≡ a .files → known S (view (innerMaskDealt S) side0 (runOf a tape) (five S lent)) ≡ innerOf S a
 unfolding unitAt incoming frame header z
-knows S L a tape well h b file e =
+knows S L a tape well h b lent e =
     (λ j.
     let s = v .after j .secrets in
     addBits (S .innerBytes) (addBits (S .innerBytes) (s .ownMask) (bodyOf (v .mask-frame j))) (s .z))
@@ -58,17 +58,17 @@ knows S L a tape well h b file e =
     τ : List ℕ
     τ = withInnerMask S tape
 
-    v : Seen S L (withInnerMask S) a tape well (accepted S tape h) (view (innerMaskDealt S) side0 (runOf a tape) (five S file))
-    v = seen S L (withInnerMask S) a tape well (accepted S tape h) file e
+    v : Seen S L (withInnerMask S) a tape well (accepted S tape h) (view (innerMaskDealt S) side0 (runOf a tape) (five S lent))
+    v = seen S L (withInnerMask S) a tape well (accepted S tape h) lent e
 
 -- inputs of different inner vectors are told apart
 pub inner-mask-leaks : (S : Scheme) → Linear S → (a b : Inputs) → WellFormed S a → WellFormed S b → SameForFixed side0 a b
     → Bytes (S .innerBytes) (innerOf S a) → Bytes (S .innerBytes) (innerOf S b) → innerOf S a ≢ innerOf S b
     → (tape : List ℕ) → Accepted S tape → ¬ Privacy (innerMaskDealt S)
 inner-mask-leaks S L a b well₁ well₂ g bytes₁ bytes₂ differ tape h privacy =
-    differ (sym (knows S L a tape well₁ h bytes₁ (a .file) refl)
+    differ (sym (knows S L a tape well₁ h bytes₁ (a .files) refl)
     ∙ ap (known S) (same-five S L (withInnerMask S) a b well₁ tape h (accepted S tape h) H)
-    ∙ knows S L b (H .pairing .forth tape) well₂ (H .pairing .forth-holds tape h) bytes₂ (a .file) (g .file))
+    ∙ knows S L b (H .pairing .forth tape) well₂ (H .pairing .forth-holds tape h) bytes₂ (a .files) (g .files))
   where
     H : Hides (innerMaskDealt S) side0 a b
     H = privacy side0 a b well₁ well₂ g

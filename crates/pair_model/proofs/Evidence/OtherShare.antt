@@ -8,11 +8,11 @@ use Rattle.linear_model.specs.Products.{planeBytes}
 use Rattle.linear_model.specs.Bits.{addBits}
 use Rattle.linear_model.proofs.Vectors.{vector-ext, trit-add, add-trits-comm}
 use Rattle.linear_model.proofs.Linearity.{trit-matrix, bytes-matrix, digit-below}
-use Rattle.pair_model.specs.Scheme.{Scheme, Linear, Side, side0, side1, sideByte, other, total}
+use Rattle.pair_model.specs.Scheme.{Files, Scheme, rowsWith, Linear, Side, side0, side1, sideByte, other, total}
 use Rattle.pair_model.specs.Tape.{Accepted, r}
 use Rattle.pair_model.specs.Evaluator.{codeOf}
 use Rattle.pair_model.specs.Unit.{shareOf}
-use Rattle.pair_model.specs.Frame.{parameters, shareKind, frame}
+use Rattle.pair_model.specs.Frame.{parametersOf, shareKind, frame}
 use Rattle.pair_model.specs.Run.{Protocol, protocol, Inputs, WellFormed, Run, runOf, Configuration, SharedEntry, same, differ, start, next, final, ListOf, firstOf, secondOf, Comparable}
 use Rattle.pair_model.specs.Theorem.{SameForFixed, Done, shareFrame, ownCode}
 use Rattle.pair_model.proofs.Theorem.Pairing.{pairing, pairedTape, paired-accepted, kept}
@@ -32,13 +32,13 @@ same-digit : (x y z : ℕ) → y < 3 → z < 3 → (x + y) % 3 ≡ (x + z) % 3 �
 same-digit x y z hy hz e = omega arith
 
 -- codes that add to the same with the same are equal
-same-code : (S : Scheme) (file v u₁ u₂ : List ℕ) → let p = planeBytes (S .digits) in
-    addTrits p (codeOf S file v) (codeOf S file u₁) ≡ addTrits p (codeOf S file v) (codeOf S file u₂) → codeOf S file u₁ ≡ codeOf S file u₂
+same-code : (S : Scheme) (lent : Files) (v u₁ u₂ : List ℕ) → let p = planeBytes (S .digits) in
+    addTrits p (codeOf S lent v) (codeOf S lent u₁) ≡ addTrits p (codeOf S lent v) (codeOf S lent u₂) → codeOf S lent u₁ ≡ codeOf S lent u₂
 unfolding codeOf
-same-code S file v u₁ u₂ e =
-    vector-ext p (codeOf S file u₁) (codeOf S file u₂) (bytes-matrix p m t rows u₁) (bytes-matrix p m t rows u₂)
-    (λ j l. same-digit (trit p (codeOf S file v) j) (trit p (codeOf S file u₁) j) (trit p (codeOf S file u₂) j) (fit u₁ j l) (fit u₂ j l)
-    (sym (trit-add p (codeOf S file v) (codeOf S file u₁) j l) ∙ ap (λ (s : List ℕ). trit p s j) e ∙ trit-add p (codeOf S file v) (codeOf S file u₂) j l))
+same-code S lent v u₁ u₂ e =
+    vector-ext p (codeOf S lent u₁) (codeOf S lent u₂) (bytes-matrix p m t rows u₁) (bytes-matrix p m t rows u₂)
+    (λ j l. same-digit (trit p (codeOf S lent v) j) (trit p (codeOf S lent u₁) j) (trit p (codeOf S lent u₂) j) (fit u₁ j l) (fit u₂ j l)
+    (sym (trit-add p (codeOf S lent v) (codeOf S lent u₁) j l) ∙ ap (λ (s : List ℕ). trit p s j) e ∙ trit-add p (codeOf S lent v) (codeOf S lent u₂) j l))
   where
     p : ℕ
     p = planeBytes (S .digits)
@@ -50,9 +50,9 @@ same-code S file v u₁ u₂ e =
     t = S .digits
 
     rows : List ℕ
-    rows = S .rows file
+    rows = rowsWith S lent
 
-    fit : (u : List ℕ) (j : ℕ) → j < 8 * p → trit p (codeOf S file u) j < 3
+    fit : (u : List ℕ) (j : ℕ) → j < 8 * p → trit p (codeOf S lent u) j < 3
     fit u j l = rw (trit-matrix p m t rows u j l) (digit-below t m rows u j)
 
 -- the sum of both shares, taken from either side
@@ -67,20 +67,20 @@ module _ (S : Scheme) (L : Linear S) (fixed : Side) (a b : Inputs) (t u : List �
   -- the fixed unit's share is the same in any case
   own-share : share S a t fixed ≡ share S b u fixed
   unfolding share
-  own-share = λ i. shareOf S (c .inputs .file i) (sideByte fixed) (addBits (S .innerBytes) (c .mask side0 i) (c .mask side1 i)) (c .r i)
+  own-share = λ i. shareOf S (c .inputs .files i) (sideByte fixed) (addBits (S .innerBytes) (c .mask side0 i) (c .mask side1 i)) (c .r i)
 
   -- with the same code the other's is too
   pub other-share : ownCode (protocol S) (runOf a t) ≡ ownCode (protocol S) (runOf b u) → share S a t (other fixed) ≡ share S b u (other fixed)
   unfolding share shareOf
   other-share e =
-      same-code S (a .file) (inner a t fixed) (inner a t (other fixed)) (inner b u (other fixed)) (codes ∙ ap₂ (addTrits p) (sym own-share) file)
-      ∙ sym file
+      same-code S (a .files) (inner a t fixed) (inner a t (other fixed)) (inner b u (other fixed)) (codes ∙ ap₂ (addTrits p) (sym own-share) same-files)
+      ∙ sym same-files
     where
       p : ℕ
       p = planeBytes (S .digits)
 
-      file : share S b u (other fixed) ≡ codeOf S (a .file) (inner b u (other fixed))
-      file = ap (λ (f : List ℕ). codeOf S f (inner b u (other fixed))) (sym (c .inputs .file))
+      same-files : share S b u (other fixed) ≡ codeOf S (a .files) (inner b u (other fixed))
+      same-files = ap (λ (f : Files). codeOf S f (inner b u (other fixed))) (sym (c .inputs .files))
 
       codes : addTrits p (share S a t fixed) (share S a t (other fixed)) ≡ addTrits p (share S b u fixed) (share S b u (other fixed))
       codes = from-side p (share S a t) fixed ∙ shares-add S L a t ∙ e ∙ sym (shares-add S L b u) ∙ sym (from-side p (share S b u) fixed)
@@ -95,7 +95,7 @@ pub other-share-frame : (S : Scheme) (L : Linear S) (fixed : Side) (a b : Inputs
 unfolding private pairing
 other-share-frame S L fixed a b well₁ well₂ g tape h es v d₁ d₂ e =
     share-sent S L a tape well₁ h (firstOf fixed es) (first-list (protocol S) fixed (runOf a tape) (runOf b u) _ _ es v) d₁ (other fixed)
-    ∙ (λ i. frame shareKind (parameters (sideByte (other fixed)) (g .session i)) (other-share S L fixed a b tape u c e i))
+    ∙ (λ i. frame shareKind (parametersOf (other fixed) (g .shared i)) (other-share S L fixed a b tape u c e i))
     ∙ sym (share-sent S L b u well₂ (paired-accepted S fixed a b tape h) (secondOf fixed es) second d₂ (other fixed))
   where
     u : List ℕ

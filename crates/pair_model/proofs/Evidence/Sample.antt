@@ -19,7 +19,8 @@ use Rattle.linear_model.proofs.Vectors.{packTrits-ext, trit-bits}
 use Rattle.matrix_model.specs.File.{matrixB, checkNumber}
 use Rattle.matrix_model.specs.Sample.{oneAt, diagonalRows, sampleFile}
 use Rattle.matrix_model.proofs.Sample.{trit-is, sample-survives}
-use Rattle.pair_model.specs.Scheme.{Side, side0, side1, other, fileNumber, field}
+use Rattle.numbers.specs.Number.{first}
+use Rattle.pair_model.specs.Scheme.{Side, side0, side1, other, files, readingNumber, field}
 use Rattle.pair_model.specs.Tape.{r0, Accepted}
 use Rattle.pair_model.specs.Evaluator.{codeOf, code}
 use Rattle.pair_model.specs.Base.{base}
@@ -43,13 +44,14 @@ one-byte x h = record { size = refl; small = λ i. at i }
     at (suc i) = bytes-zeros 31 .small i
 
 well : WellFormed base sampleInputs
-unfolding fileNumber checkNumber
+unfolding readingNumber checkNumber first
 well =
     record {
       key = λ i. elim i [ side0 ↦ one-byte 1 (lit< tt) | side1 ↦ bytes-zeros 32 ];
       label = λ i. elim i [ side0 ↦ one-byte 5 (lit< tt) | side1 ↦ bytes-zeros 32 ];
-      session = lit< tt;
-      file = sample-survives .fit;
+      shared = record { session = lit< tt };
+      product = refl;
+      rows = sample-survives .fit;
     }
 
 changed-well : (i : Side) → WellFormed base (changed i)
@@ -57,15 +59,17 @@ changed-well side0 =
     record {
       key = λ i. elim i [ side0 ↦ one-byte 2 (lit< tt) | side1 ↦ bytes-zeros 32 ];
       label = λ i. elim i [ side0 ↦ one-byte 9 (lit< tt) | side1 ↦ bytes-zeros 32 ];
-      session = lit< tt;
-      file = well .file;
+      shared = well .shared;
+      product = well .product;
+      rows = well .rows;
     }
 changed-well side1 =
     record {
       key = λ i. elim i [ side0 ↦ one-byte 1 (lit< tt) | side1 ↦ one-byte 2 (lit< tt) ];
       label = λ i. elim i [ side0 ↦ one-byte 5 (lit< tt) | side1 ↦ one-byte 9 (lit< tt) ];
-      session = lit< tt;
-      file = well .file;
+      shared = well .shared;
+      product = well .product;
+      rows = well .rows;
     }
 
 accepted-zeros : Accepted base (zeros 256)
@@ -85,12 +89,12 @@ differs side0 = (apart 2 1 _ _ tt, apart 9 5 _ _ tt)
 differs side1 = (apart 2 0 _ _ tt, apart 9 0 _ _ tt)
 
 same-for : (fixed : Side) → SameForFixed fixed sampleInputs (changed (other fixed))
-same-for side0 = record { key = refl; label = refl; session = refl; file = refl }
-same-for side1 = record { key = refl; label = refl; session = refl; file = refl }
+same-for side0 = record { key = refl; label = refl; shared = refl; files = refl }
+same-for side1 = record { key = refl; label = refl; shared = refl; files = refl }
 
 -- ---- compared
 
-three : (fixed i : Side) → sentCount (firstOf fixed (withStrays base sampleFile fixed)) i ≡ 3
+three : (fixed i : Side) → sentCount (firstOf fixed (withStrays base (files sampleFile) fixed)) i ≡ 3
 unfolding sentCount
 three side0 side0 = refl
 three side0 side1 = refl
@@ -103,7 +107,7 @@ run-correct = correct base base-linear sampleInputs (zeros 256) well accepted-ze
 
 available : (i : Side) → DeliveredAsSent (protocol base) sampleRun (start (protocol base) sampleRun) (sampleEntry i)
 unfolding sentCount final
-available i = run-correct .available [] tt (sampleEntry i) (record { notDone = lit< tt; notAhead = lit≤ tt; file = λ t. refl; output = le-refl 70 })
+available i = run-correct .available [] tt (sampleEntry i) (record { notDone = lit< tt; notAhead = lit≤ tt; files = refl; output = le-refl 70 })
 
 not-ahead : let P = protocol base in ¬ DeliveredAsSent P sampleRun (final P sampleRun (start P sampleRun) (sampleEntry side0 ∷ [])) (sampleEntry side0)
 unfolding sentCount
@@ -142,7 +146,7 @@ packed = refl
 code-is : ownCode (protocol base) sampleRun ≡ 5 ∷ zeros 21
 unfolding code codeOf matrixProduct
 code-is =
-    ap₂ (λ (k x : List ℕ). code base k x sampleFile) (add-zeros 32 (1 ∷ zeros 31) (one-byte 1 (lit< tt))) (add-zeros 32 label (one-byte 5 (lit< tt)))
+    ap₂ (λ (k x : List ℕ). code base k x (files sampleFile)) (add-zeros 32 (1 ∷ zeros 31) (one-byte 1 (lit< tt))) (add-zeros 32 label (one-byte 5 (lit< tt)))
     ∙ ap₂ (λ (rows w : List ℕ). matrixProduct 11 32 81 rows (bitTrits 32 w)) (sample-survives .same) inner
     ∙ packTrits-ext 11 (below 81 (rowDigit 32 (diagonalRows matrixB) v)) (below 81 (bit label)) (λ j l. at j (ltb j 81) (ltb→lt j 81))
     ∙ packed
@@ -162,8 +166,8 @@ sample-compared =
       comparable = λ fixed tape. with-strays base base-linear sampleInputs (zeros 256) well accepted-zeros fixed (runOf (changed (other fixed)) tape);
       done =
           λ fixed i.
-          run-correct .stages (firstOf fixed (withStrays base sampleFile fixed))
-          (first-list (protocol base) fixed sampleRun sampleRun _ _ (withStrays base sampleFile fixed)
+          run-correct .stages (firstOf fixed (withStrays base (files sampleFile) fixed))
+          (first-list (protocol base) fixed sampleRun sampleRun _ _ (withStrays base (files sampleFile) fixed)
           (with-strays base base-linear sampleInputs (zeros 256) well accepted-zeros fixed sampleRun)) i
           ∙ ap (λ (k : ℕ). 1 + k) (three fixed i);
       available = available;

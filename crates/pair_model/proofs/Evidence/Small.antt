@@ -10,18 +10,19 @@ use Rattle.linear_model.specs.Bits.{Bytes, zeros, bit}
 use Rattle.linear_model.specs.Tables.{every}
 use Rattle.linear_model.specs.Trits.{trit, fitTrits}
 use Rattle.linear_model.proofs.Strings.{bytes-zeros}
-use Rattle.linear_model.proofs.Linearity.{circulant-bilinear}
 use Rattle.numbers.specs.Number.{first}
-use Rattle.pair_model.specs.Scheme.{Linear, Side, side0, side1, fileNumber, field}
+use Rattle.pair_model.specs.Scheme.{Linear, Side, side0, side1, files, readingNumber, field}
 use Rattle.pair_model.specs.Tape.{r0, Accepted}
+use Rattle.pair_model.specs.Frame.{sharedParameters}
 use Rattle.pair_model.specs.Run.{Inputs, WellFormed}
 use Rattle.pair_model.specs.Theorem.{SameForFixed}
 use Rattle.pair_model.specs.Sample.{ofSides}
 use Rattle.pair_model.specs.Leaky.{small}
+use Rattle.pair_model.proofs.Theorem.Main.{circulant-linear}
 
 -- its product is linear on both sides
 pub small-linear : Linear small
-small-linear = record { bilinear = λ file. circulant-bilinear 1; unread = λ e f g key label. refl }
+small-linear = circulant-linear 1 1 _ _
 
 -- one byte
 pub bytes-one : (x : ℕ) → x < 256 → Bytes 1 (x ∷ [])
@@ -34,18 +35,19 @@ bytes-one x h = record { size = refl; small = λ i. at i }
 -- both key halves, both label halves, session 1 and a file whose one row has trit 1 in column 0
 abbrev pub smallInputs : (key0 key1 label0 label1 : ℕ) → Inputs
 smallInputs key0 key1 label0 label1 =
-    record { key = ofSides (key0 ∷ []) (key1 ∷ []); label = ofSides (label0 ∷ []) (label1 ∷ []); session = 1; file = 1 ∷ 0 ∷ [] }
+    record { key = ofSides (key0 ∷ []) (key1 ∷ []); label = ofSides (label0 ∷ []) (label1 ∷ []); shared = sharedParameters 1; files = files (1 ∷ 0 ∷ []) }
 
 -- they are well-formed where all halves are bytes
 pub small-well : (key0 key1 label0 label1 : ℕ) → key0 < 256 → key1 < 256 → label0 < 256 → label1 < 256
     → WellFormed small (smallInputs key0 key1 label0 label1)
-unfolding fileNumber first
+unfolding readingNumber first
 small-well key0 key1 label0 label1 h0 h1 h2 h3 =
     record {
       key = λ i. elim i [ side0 ↦ bytes-one key0 h0 | side1 ↦ bytes-one key1 h1 ];
       label = λ i. elim i [ side0 ↦ bytes-one label0 h2 | side1 ↦ bytes-one label1 h3 ];
-      session = lit< tt;
-      file = refl;
+      shared = record { session = lit< tt };
+      product = refl;
+      rows = refl;
     }
 
 -- the tape of zeros is accepted
@@ -78,4 +80,4 @@ well₂ = small-well 0 1 1 0 (lit< tt) (lit< tt) (lit< tt) (lit< tt)
 
 -- and the same for side 0
 pub same-for : SameForFixed side0 a b
-same-for = record { key = refl; label = refl; session = refl; file = refl }
+same-for = record { key = refl; label = refl; shared = refl; files = refl }

@@ -168,12 +168,12 @@ module _ (u : List ℕ) (h : Accepted small u) where
 -- ---- a view of the second run that is the first one's with zeros dealt
 
 module _ (t u : List ℕ) (h₁ : Accepted small t) (h₂ : Accepted small u) (zeros-dealt : withUnevenMask small t ≡ zeros 8)
-    (views : view (unevenMaskDealt small) side0 (runOf a t) (five small (a .file)) ≡ view (unevenMaskDealt small) side0 (runOf b u) (five small (a .file))) where
-  s₁ : Seen small small-linear (withUnevenMask small) a t well₁ (accepted t h₁) (view (unevenMaskDealt small) side0 (runOf a t) (five small (a .file)))
-  s₁ = seen small small-linear (withUnevenMask small) a t well₁ (accepted t h₁) (a .file) refl
+    (views : view (unevenMaskDealt small) side0 (runOf a t) (five small (a .files)) ≡ view (unevenMaskDealt small) side0 (runOf b u) (five small (a .files))) where
+  s₁ : Seen small small-linear (withUnevenMask small) a t well₁ (accepted t h₁) (view (unevenMaskDealt small) side0 (runOf a t) (five small (a .files)))
+  s₁ = seen small small-linear (withUnevenMask small) a t well₁ (accepted t h₁) (a .files) refl
 
-  s₂ : Seen small small-linear (withUnevenMask small) b u well₂ (accepted u h₂) (view (unevenMaskDealt small) side0 (runOf b u) (five small (a .file)))
-  s₂ = seen small small-linear (withUnevenMask small) b u well₂ (accepted u h₂) (a .file) refl
+  s₂ : Seen small small-linear (withUnevenMask small) b u well₂ (accepted u h₂) (view (unevenMaskDealt small) side0 (runOf b u) (five small (a .files)))
+  s₂ = seen small small-linear (withUnevenMask small) b u well₂ (accepted u h₂) (a .files) refl
 
   state-same : unitAt small a (zeros 8) side0 2 ≡ unitAt small b (withUnevenMask small u) side0 2
   state-same =
@@ -195,9 +195,9 @@ module _ (t u : List ℕ) (h₁ : Accepted small t) (h₂ : Accepted small u) (z
       ≡ getD (openKey small b τ side1 ∷ openLabel small b τ side1 ∷ []) k []
   unfolding incoming frame header
   opened k =
-      sym (open-field small small-linear a (zeros 8) well₁ zero-tape side0 (a .file) (leastOutput small) (le-refl (leastOutput small)) side1 k)
+      sym (open-field small small-linear a (zeros 8) well₁ zero-tape side0 (a .files) (leastOutput small) (le-refl (leastOutput small)) side1 k)
       ∙ ap (λ (f : List ℕ). field (openLayout small) k (bodyOf f)) open-same
-      ∙ open-field small small-linear b τ well₂ (accepted u h₂) side0 (b .file) (leastOutput small) (le-refl (leastOutput small)) side1 k
+      ∙ open-field small small-linear b τ well₂ (accepted u h₂) side0 (b .files) (leastOutput small) (le-refl (leastOutput small)) side1 k
 
   -- both masks, and so w under w̃
   masks : addBits 1 (innerOf small a) (w̃ small (zeros 8)) ≡ addBits 1 (innerOf small b) (w̃ small τ)

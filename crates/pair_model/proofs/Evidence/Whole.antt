@@ -25,7 +25,7 @@ evidence =
       falling = falling-first;
       sample = sample-compared;
       selfComparable = λ fixed run es. shared-comparable (protocol base) fixed run run es;
-      dealer = deal-accepted base;
+      dealer = λ lent. deal-accepted base lent tt;
       sampler = sampled-accepted base;
       share =
           λ fixed a b well₁ well₂ g.

@@ -24,9 +24,9 @@ use Rattle.pair_model.proofs.Evidence.LeakyMask.{opened, v₀, v₁, v�
 record Equal (u : List ℕ) : Type 0 where
   key : (i : Side) → openKey small a (zeros 8) i ≡ openKey small b u i
   label : (i : Side) → openLabel small a (zeros 8) i ≡ openLabel small b u i
-  masks : maskWithoutZ small (a .file) 1 (addBits 1 (openKey small a (zeros 8) side1) (openKey small a (zeros 8) side0))
+  masks : maskWithoutZ small (a .files) 1 (addBits 1 (openKey small a (zeros 8) side1) (openKey small a (zeros 8) side0))
       (addBits 1 (openLabel small a (zeros 8) side1) (openLabel small a (zeros 8) side0)) (K̃ small (zeros 8) side1) (x̃ small (zeros 8) side1)
-      ≡ maskWithoutZ small (a .file) 1 (addBits 1 (openKey small b u side1) (openKey small b u side0))
+      ≡ maskWithoutZ small (a .files) 1 (addBits 1 (openKey small b u side1) (openKey small b u side0))
       (addBits 1 (openLabel small b u side1) (openLabel small b u side0)) (K̃ small u side1) (x̃ small u side1)
 
 module _ (H : Hides (withoutZ small) side0 a b) where
@@ -39,21 +39,21 @@ module _ (H : Hides (withoutZ small) side0 a b) where
 
   es : List SharedEntry
   es =
-      let e0 = same (sent small (a .file) side0) in let e1 = same (sent small (a .file) side1) in
+      let e0 = same (sent small (a .files) side0) in let e1 = same (sent small (a .files) side1) in
       e1 ∷ e0 ∷ e1 ∷ e0 ∷ e0 ∷ []
 
   views : view (withoutZ small) side0 (runOf a (zeros 8)) (firstOf side0 es) ≡ view (withoutZ small) side0 (runOf b u) (secondOf side0 es)
   unfolding u es
   views =
       H .sameView (zeros 8) zero-tape es (
-        v₀ small small-linear a (zeros 8) well₁ zero-tape (a .file) refl,
+        v₀ small small-linear a (zeros 8) well₁ zero-tape (a .files) refl,
         (
-          v₁ small small-linear a (zeros 8) well₁ zero-tape (a .file) refl,
+          v₁ small small-linear a (zeros 8) well₁ zero-tape (a .files) refl,
           (
-            v₂ small small-linear a (zeros 8) well₁ zero-tape (a .file) refl,
+            v₂ small small-linear a (zeros 8) well₁ zero-tape (a .files) refl,
             (
-              v₃ small small-linear a (zeros 8) well₁ zero-tape (a .file) refl,
-              (v₄ small small-linear a (zeros 8) well₁ zero-tape (a .file) refl, tt),
+              v₃ small small-linear a (zeros 8) well₁ zero-tape (a .files) refl,
+              (v₄ small small-linear a (zeros 8) well₁ zero-tape (a .files) refl, tt),
             ),
           ),
         ),
@@ -63,16 +63,16 @@ module _ (H : Hides (withoutZ small) side0 a b) where
   own : (k : ℕ) → opened small a (zeros 8) side0 k ≡ opened small b u side0 k
   unfolding view events es
   own k =
-      sym (own-open small small-linear a (zeros 8) well₁ zero-tape (a .file) refl k)
+      sym (own-open small small-linear a (zeros 8) well₁ zero-tape (a .files) refl k)
       ∙ ap (λ (v : View). field (openLayout small) k (bodyOf (eventAt 0 v .written))) views
-      ∙ own-open small small-linear b u well₂ hu (a .file) refl k
+      ∙ own-open small small-linear b u well₂ hu (a .files) refl k
 
   others : (k : ℕ) → opened small a (zeros 8) side1 k ≡ opened small b u side1 k
   unfolding view events es
   others k =
-      sym (other-open small small-linear a (zeros 8) well₁ zero-tape (a .file) refl k)
+      sym (other-open small small-linear a (zeros 8) well₁ zero-tape (a .files) refl k)
       ∙ ap (λ (v : View). field (openLayout small) k (bodyOf (eventAt 1 v .frame))) views
-      ∙ other-open small small-linear b u well₂ hu (a .file) refl k
+      ∙ other-open small small-linear b u well₂ hu (a .files) refl k
 
   equal : Equal u
   unfolding view events es
@@ -81,9 +81,9 @@ module _ (H : Hides (withoutZ small) side0 a b) where
         key = λ i. elim i [ side0 ↦ own 0 | side1 ↦ others 0 ];
         label = λ i. elim i [ side0 ↦ own 1 | side1 ↦ others 1 ];
         masks =
-            sym (other-mask small small-linear a (zeros 8) well₁ zero-tape (a .file) refl)
+            sym (other-mask small small-linear a (zeros 8) well₁ zero-tape (a .files) refl)
             ∙ ap (λ (v : View). bodyOf (eventAt 2 v .frame)) views
-            ∙ other-mask small small-linear b u well₂ hu (a .file) refl;
+            ∙ other-mask small small-linear b u well₂ hu (a .files) refl;
       }
 
 -- a byte that adds with x to y is y + x
@@ -91,7 +91,7 @@ pub apart : (k x y : List ℕ) → Bytes 1 k → y ≡ addBits 1 x k → k ≡ a
 apart k x y h e = sym (add-twice 1 k x h) ∙ ap (λ (s : List ℕ). addBits 1 s x) (add-comm 1 k x ∙ sym e)
 
 abbrev w : (K̂ x̂ K̃ x̃ : ℕ) → List ℕ
-w K̂ x̂ K̃ x̃ = maskWithoutZ small (a .file) 1 (K̂ ∷ []) (x̂ ∷ []) (K̃ ∷ []) (x̃ ∷ [])
+w K̂ x̂ K̃ x̃ = maskWithoutZ small (a .files) 1 (K̂ ∷ []) (x̂ ∷ []) (K̃ ∷ []) (x̃ ∷ [])
 
 -- the two masks would be 0 and 1
 different : ¬ (w 0 1 0 0 ≡ w 0 1 1 0)
@@ -100,7 +100,7 @@ different e = zero-one [] [] e
 
 impossible : (u : List ℕ) → Accepted small u → Equal u → ⊥
 unfolding K̃ x̃ field addBits pack tabulate fromBits bit
-impossible u hu q = different (q .masks ∙ (λ j. maskWithoutZ small (a .file) 1 (K̂ j) (x̂ j) (K̃-is j) (x̃-is j)))
+impossible u hu q = different (q .masks ∙ (λ j. maskWithoutZ small (a .files) 1 (K̂ j) (x̂ j) (K̃-is j) (x̃-is j)))
   where
     K̃-is : K̃ small u side1 ≡ 1 ∷ []
     K̃-is = apart (K̃ small u side1) (1 ∷ []) (0 ∷ []) (whole-parts small u hu .keyMask side1) (q .key side1)

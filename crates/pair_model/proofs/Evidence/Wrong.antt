@@ -10,10 +10,10 @@ use Rattle.linear_model.specs.Tables.{tabulate, sum, every}
 use Rattle.linear_model.specs.Trits.{trit, fitTrits}
 use Rattle.linear_model.specs.Products.{bitProduct}
 use Rattle.numbers.specs.Number.{first, onlyIf}
-use Rattle.pair_model.specs.Scheme.{side0, side1, field}
+use Rattle.pair_model.specs.Scheme.{noFiles, side0, side1, field}
 use Rattle.pair_model.specs.Frame.{parameters, openKind, frame}
 use Rattle.pair_model.specs.Header.{readHeader}
-use Rattle.pair_model.specs.Unit.{State, state, nothing, halves, idleStage, doneStage, leastOutput, beginConditions, begin, readsFile, stepConditions, takeDeal, step}
+use Rattle.pair_model.specs.Unit.{State, state, nothing, halves, idleStage, doneStage, leastOutput, beginConditions, begin, stepConditions, takeDeal, step}
 use Rattle.pair_model.specs.Run.{runOf, Lent, same, strayOf, start, DeliveredAsSent}
 use Rattle.pair_model.specs.View.{View, events, view}
 use Rattle.pair_model.specs.Theorem.{Demand3}
@@ -59,12 +59,12 @@ other-key-fails d =
 -- ---- no frame is accepted
 
 -- the deal is there for the unit that was begun
-delivered : DeliveredAsSent (refusesAll small) (runOf a (zeros 8)) (start (refusesAll small) (runOf a (zeros 8))) (sent small (a .file) side0)
+delivered : DeliveredAsSent (refusesAll small) (runOf a (zeros 8)) (start (refusesAll small) (runOf a (zeros 8))) (sent small (a .files) side0)
 unfolding begin beginConditions first
-delivered = record { waiting = lit≤ tt; written = lit≤ tt; file = λ t. refl; output = le-refl (leastOutput small) }
+delivered = record { waiting = lit≤ tt; written = lit≤ tt; files = refl; output = le-refl (leastOutput small) }
 
 pub refuses-all-fails : ¬ Demand3 (refusesAll small)
-refuses-all-fails d = thirteen (d .correctness (runOf a (zeros 8)) well₁ zero-tape .accepted (sent small (a .file) side0 ∷ []) (delivered, tt) .0)
+refuses-all-fails d = thirteen (d .correctness (runOf a (zeros 8)) well₁ zero-tape .accepted (sent small (a .files) side0 ∷ []) (delivered, tt) .0)
   where
     thirteen : ¬ (_≡_ {A = ℕ} 13 0)
     thirteen e = omega arith
@@ -77,10 +77,10 @@ waiting = state (parameters 0 1) openKind (nothing small)
 
 -- a deal of zeros for it
 abbrev dealOfZeros : Lent
-dealOfZeros = record { frame = 1 ∷ 0 ∷ 1 ∷ 0 ∷ 0 ∷ 0 ∷ zeros 5; file = []; outputLength = 8 }
+dealOfZeros = record { frame = 1 ∷ 0 ∷ 1 ∷ 0 ∷ 0 ∷ 0 ∷ zeros 5; files = noFiles; outputLength = 8 }
 
 pub second-deal-fails : ¬ Demand3 (secondDeal small)
-unfolding dealAgain step stepConditions readHeader readsFile onlyIf first fitTrits every trit bit field takeDeal
+unfolding dealAgain step stepConditions readHeader onlyIf first fitTrits every trit bit field takeDeal
 second-deal-fails d = two-three (d .threeFrames .counts waiting (dealOfZeros ∷ []) (lit≤ tt))
   where
     two-three : ¬ (_≡_ {A = ℕ} 2 3)
@@ -93,11 +93,11 @@ one-zero e = omega arith
 
 -- an empty frame
 abbrev noFrame : Lent
-noFrame = record { frame = []; file = []; outputLength = 8 }
+noFrame = record { frame = []; files = noFiles; outputLength = 8 }
 
 -- the other unit's number for a stray entry that both runs share differs
 pub telling-number-fails : ¬ Demand3 (tellingNumber small)
-unfolding numberByKey begin beginConditions step stepConditions readHeader readsFile onlyIf first bit
+unfolding numberByKey begin beginConditions step stepConditions readHeader onlyIf first bit
 telling-number-fails d =
     let H = d .privacy side0 a b well₁ well₂ same-for in
     three-four (H .sameView (zeros 8) zero-tape (same (strayOf side1 noFrame) ∷ []) ((λ e. omega (arith, e)), tt) .numbers .0)
@@ -107,7 +107,7 @@ telling-number-fails d =
 
 -- the key half 1 is gone
 pub clearing-refusal-fails : ¬ Demand3 (clearingRefusal small)
-unfolding clearedIfRefused step stepConditions readHeader readsFile onlyIf first
+unfolding clearedIfRefused step stepConditions readHeader onlyIf first
 clearing-refusal-fails d =
     zero-one [] [] (ap (λ (u : State). u .secrets .key)
     (d .threeFrames .refusal (state (parameters 0 1) openKind (halves small (1 ∷ []) (0 ∷ []))) noFrame (λ e. omega (arith, e)) .1))

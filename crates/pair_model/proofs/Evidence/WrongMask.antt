@@ -14,7 +14,7 @@ use Rattle.pair_model.specs.Tape.{K̃, x̃, w̃, z0, r0, z, r, deal}
 use Rattle.pair_model.specs.Frame.{frame, header}
 use Rattle.pair_model.specs.Evaluator.{codeOf, code}
 use Rattle.pair_model.specs.Header.{readHeader}
-use Rattle.pair_model.specs.Unit.{beginConditions, begin, readsFile, stepConditions, takeDeal, takeOpen, takeMask, maskOf, shareOf}
+use Rattle.pair_model.specs.Unit.{beginConditions, begin, stepConditions, takeDeal, takeOpen, takeMask, maskOf, shareOf}
 use Rattle.pair_model.specs.Dealer.{dealFrame}
 use Rattle.pair_model.specs.Run.{Protocol, WellFormed, Run, runOf, Configuration, start, next, final}
 use Rattle.pair_model.specs.Join.{joined}
@@ -46,7 +46,7 @@ record Computed : Type 0 where
   own : ownCode (halfForMask small) run ≡ 0 ∷ 0 ∷ []
 
 computed : Computed
-unfolding next final begin beginConditions first onlyIf readsFile stepConditions readHeader stepBy takeDeal takeOpen takeMask maskOf shareOf dealFrame deal z r K̃ x̃ w̃ z0 r0 frame header field concat addBits pack tabulate fromBits bit bitProduct sum fitTrits every trit packTrits subtractTrits code codeOf matrixProduct bitTrits innerShare joined addTrits
+unfolding next final begin beginConditions first onlyIf stepConditions readHeader stepBy takeDeal takeOpen takeMask maskOf shareOf dealFrame deal z r K̃ x̃ w̃ z0 r0 frame header field concat addBits pack tabulate fromBits bit bitProduct sum fitTrits every trit packTrits subtractTrits code codeOf matrixProduct bitTrits innerShare joined addTrits
 computed = record { stage = refl; half = refl; copied = refl; own = refl }
 
 pub empty-mask-fails : ¬ Demand3 (emptyMask small)

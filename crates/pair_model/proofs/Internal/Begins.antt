@@ -8,37 +8,37 @@ use borrow.Author.Tests.{eq-eqb, ne-eqb}
 use lib.Dec.{ltb, eqb, lit<}
 use lib.ListN.{length}
 use Rattle.pair_model.specs.Scheme.{Scheme}
-use Rattle.pair_model.specs.Frame.{parameters}
+use Rattle.pair_model.specs.Frame.{Parameters}
 use Rattle.pair_model.specs.Unit.{State, beginConditions, beginNumber, begin, begun, idle}
 use Rattle.numbers.proofs.Numbers.{first-none, is-equal, is-at-least}
 
-module _ (S : Scheme) (side session : ℕ) (key label : List ℕ) where
+module _ (S : Scheme) (t : Parameters) (key label : List ℕ) where
   -- what is accepted has halves of the stated length and a side of 0 or 1
   pub record Fits : Type 0 where
     pub key-length : length key ≡ S .keyBytes
     pub label-length : length label ≡ S .keyBytes
-    pub side-small : side ≤ 1
+    pub side-small : t .side ≤ 1
 
-  pub begin-fits : beginNumber S side key label ≡ 0 → Fits
+  pub begin-fits : beginNumber S t key label ≡ 0 → Fits
   unfolding beginConditions
   begin-fits e =
       let k = first-none 1 (not (eqb (length key) (S .keyBytes))) _ (lit< tt) e in
       let l = first-none 1 (not (eqb (length label) (S .keyBytes))) _ (lit< tt) (k .1) in
-      let s = first-none 2 (ltb 1 side) [] (lit< tt) (l .1) in
+      let s = first-none 2 (ltb 1 (t .side)) [] (lit< tt) (l .1) in
       record {
         key-length = is-equal (length key) (S .keyBytes) (k .0);
         label-length = is-equal (length label) (S .keyBytes) (l .0);
-        side-small = is-at-least 1 side (s .0);
+        side-small = is-at-least 1 (t .side) (s .0);
       }
 
-  pub begin-accepted : beginNumber S side key label ≡ 0 → begin S side session key label .next ≡ begun S (parameters side session) key label
+  pub begin-accepted : beginNumber S t key label ≡ 0 → begin S t key label .next ≡ begun S t key label
   unfolding begin
-  begin-accepted e = ap {B = State} (λ (b : Bool). cond b (begun S (parameters side session) key label) (idle S)) (eq-eqb _ _ e)
+  begin-accepted e = ap {B = State} (λ (b : Bool). cond b (begun S t key label) (idle S)) (eq-eqb _ _ e)
 
-  pub begin-refused : beginNumber S side key label ≢ 0 → begin S side session key label .next ≡ idle S
+  pub begin-refused : beginNumber S t key label ≢ 0 → begin S t key label .next ≡ idle S
   unfolding begin
-  begin-refused h = ap {B = State} (λ (b : Bool). cond b (begun S (parameters side session) key label) (idle S)) (ne-eqb _ _ h)
+  begin-refused h = ap {B = State} (λ (b : Bool). cond b (begun S t key label) (idle S)) (ne-eqb _ _ h)
 
-  pub begin-result : begin S side session key label .result ≡ beginNumber S side key label
+  pub begin-result : begin S t key label .result ≡ beginNumber S t key label
   unfolding begin
   begin-result = refl

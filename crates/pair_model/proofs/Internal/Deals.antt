@@ -12,11 +12,11 @@ use Rattle.linear_model.specs.Bits.{zeros}
 use Rattle.linear_model.specs.Trits.{fitTrits, packTrits}
 use Rattle.linear_model.proofs.Strings.{bytes-add}
 use Rattle.linear_model.proofs.Vectors.{length-packTrits, bytes-subtract}
-use Rattle.numbers.specs.Number.{first, output}
-use Rattle.pair_model.specs.Scheme.{Side, side0, side1, concat}
+use Rattle.numbers.specs.Number.{first, merge, output}
+use Rattle.pair_model.specs.Scheme.{Files, noFiles, Side, side0, side1, concat}
 use Rattle.pair_model.specs.Base.{base}
 use Rattle.pair_model.specs.Tape.{z, r0, r, deal}
-use Rattle.pair_model.specs.Frame.{parameters}
+use Rattle.pair_model.specs.Frame.{SharedParameters, parametersOf}
 use Rattle.pair_model.specs.Sampler.{tritOf, drawn, sampled, sampleConditions, sampleNumber}
 use Rattle.pair_model.specs.Dealer.{dealFrame, dealt, dealConditions, dealNumber, dealSourceConditions, dealSourceNumber}
 use Rattle.numbers.proofs.Numbers.{first-none, is-equal, is-at-least}
@@ -35,21 +35,21 @@ pub record Fits (t : List ℕ) (n : ℕ) : Type 0 where
   pub tape-length : length t ≡ 256
   pub room : 332 ≤ n
 
-pub deal-fits : (t : List ℕ) (n : ℕ) → dealNumber base t n ≡ 0 → Fits t n
+pub deal-fits : (lent : Files) (t : List ℕ) (n : ℕ) → dealNumber base lent t n ≡ 0 → Fits t n
 unfolding dealConditions
-deal-fits t n e =
+deal-fits lent t n e =
     let l = first-none 1 (not (eqb (length t) 256)) _ (lit< tt) e in
     let r = first-none 1 (ltb n 332) _ (lit< tt) (l .1) in
     record { tape-length = is-equal (length t) 256 (l .0); room = is-at-least n 332 (r .0) }
 
 -- over source bytes: too little room, or else the sampler's number
-pub source-room : (s : List ℕ) (n : ℕ) → n < 332 → 1 ≡ dealSourceNumber base s n
+pub source-room : (lent : Files) (s : List ℕ) (n : ℕ) → n < 332 → 1 ≡ dealSourceNumber base lent s n
 unfolding first dealSourceConditions
-source-room s n h = simp (lt-ltb n 332 h)
+source-room lent s n h = simp (lt-ltb n 332 h)
 
-pub source-number : (s : List ℕ) (n : ℕ) → 332 ≤ n → sampleNumber base s 256 ≡ dealSourceNumber base s n
-unfolding first sampleConditions dealSourceConditions
-source-number s n h = simp (le-ltb n 332 h)
+pub source-number : (lent : Files) (s : List ℕ) (n : ℕ) → 332 ≤ n → sampleNumber base s 256 ≡ dealSourceNumber base lent s n
+unfolding first merge sampleConditions dealSourceConditions
+source-number lent s n h = simp (le-ltb n 332 h)
 
 -- a sampled tape fills 256 bytes
 pub sampled-whole : (s : List ℕ) → sampleNumber base s 256 ≡ 0 → output 0 (sampled base s) (zeros 256) ≡ sampled base s
@@ -71,7 +71,7 @@ module _ (t : List ℕ) (e : length t ≡ 256) where
   part : (k n : ℕ) → k + n ≤ 256 → length (take n (drop k t)) ≡ n
   part k n h = length-take-le n (drop k t) (rw length-drop (omega arith))
 
-  deal-long : (i : Side) → length (deal base [] t i) ≡ 160
+  deal-long : (i : Side) → length (deal base noFiles t i) ≡ 160
   unfolding deal z r
   deal-long side0 =
       four-long _ _ _ _ (ap length (sym (tape-K̃0 t)) ∙ part 0 32 (lit≤ tt)) (ap length (sym (tape-x̃0 t)) ∙ part 64 32 (lit≤ tt))
@@ -81,15 +81,15 @@ module _ (t : List ℕ) (e : length t ≡ 256) where
       (bytes-add 32 _ _ .size) (bytes-subtract 32 _ _ .size)
 
 -- the second frame behind the first, over the front of d
-pub deal-written : (session : ℕ) (t d o p : List ℕ) → length t ≡ 256 → 332 ≤ length d
-    → o ≡ dealFrame base session [] t side0 ++ drop 166 d → p ≡ dealFrame base session [] t side1 ++ drop 166 (take (length o - 166) (drop 166 o))
-    → take 166 o ++ (p ++ drop (length o - 166) (drop 166 o)) ≡ output 0 (dealt base session [] t) d
+pub deal-written : (shared : SharedParameters) (t d o p : List ℕ) → length t ≡ 256 → 332 ≤ length d
+    → o ≡ dealFrame base shared noFiles t side0 ++ drop 166 d → p ≡ dealFrame base shared noFiles t side1 ++ drop 166 (take (length o - 166) (drop 166 o))
+    → take 166 o ++ (p ++ drop (length o - 166) (drop 166 o)) ≡ output 0 (dealt base shared noFiles t) d
 unfolding output dealt dealFrame
-deal-written session t d o p l h e ep =
-    let a : List ℕ = dealFrame base session [] t side0 in
-    let b : List ℕ = dealFrame base session [] t side1 in
-    let la : length a ≡ 166 = length-frame 1 (parameters 0 session) (deal base [] t side0) ∙ ap (λ (k : ℕ). 6 + k) (deal-long t l side0) in
-    let lb : length b ≡ 166 = length-frame 1 (parameters 1 session) (deal base [] t side1) ∙ ap (λ (k : ℕ). 6 + k) (deal-long t l side1) in
+deal-written shared t d o p l h e ep =
+    let a : List ℕ = dealFrame base shared noFiles t side0 in
+    let b : List ℕ = dealFrame base shared noFiles t side1 in
+    let la : length a ≡ 166 = length-frame 1 (parametersOf side0 shared) (deal base noFiles t side0) ∙ ap (λ (k : ℕ). 6 + k) (deal-long t l side0) in
+    let lb : length b ≡ 166 = length-frame 1 (parametersOf side1 shared) (deal base noFiles t side1) ∙ ap (λ (k : ℕ). 6 + k) (deal-long t l side1) in
     let front : take 166 o ≡ a = ap (take 166) e ∙ take-at a (drop 166 d) 166 la in
     let behind : drop 166 o ≡ drop 166 d = ap (drop 166) e ∙ drop-at a (drop 166 d) 166 la in
     let rest : take (length o - 166) (drop 166 o) ≡ drop 166 d = take-all (length o - 166) (drop 166 o) (rw length-drop (omega arith)) ∙ behind in

@@ -7,8 +7,8 @@ use borrow.Author.Tests.{eq-eqb, ne-eqb}
 use lib.Dec.{eqb}
 use lib.ListN.{length, getD}
 use Rattle.numbers.specs.Number.{first}
-use Rattle.pair_model.specs.Scheme.{Scheme, field, concat}
-use Rattle.pair_model.specs.Frame.{parameters, header, frame, bodyOf}
+use Rattle.pair_model.specs.Scheme.{Files, Scheme, field, concat}
+use Rattle.pair_model.specs.Frame.{Parameters, parameters, header, frame, bodyOf}
 use Rattle.pair_model.specs.Unit.{Secrets, State, state, Stepped, begun, idle, beginNumber, begin, advance}
 use Rattle.pair_model.specs.StateSlice.{secretsLayout, stateBytes, encodeState, decodeState, Sized, sliceStep, pairBeginNumber, pairBeginState, pairStepNumber, pairStepState, pairStepWritten}
 use Rattle.pair_model.proofs.Theorem.Layouts.{Laid, field-concat}
@@ -24,7 +24,7 @@ laid-secrets S u h = (h .key, (h .label, (h .keyMask, (h .labelMask, (h .z, (h .
 pub decode-encode : (S : Scheme) (u : State) → Sized S u → decodeState S (encodeState u) ≡ u
 unfolding decodeState encodeState frame header
 decode-encode S u h =
-    λ i. state (parameters (u .parameters .side) (session-back (u .parameters .session) (h .session) i)) (u .stage)
+    λ i. state (parameters (u .parameters .side) (session-back (u .parameters .shared .session) (h .shared .session) i)) (u .stage)
     (record {
       key = part 0 i;
       label = part 1 i;
@@ -41,61 +41,61 @@ decode-encode S u h =
 -- ---- a slice of another length
 
 module _ (S : Scheme) (s : List ℕ) (h : length s ≡ stateBytes S → ⊥) where
-  pub begin-short : (side session : ℕ) (key label : List ℕ) → (1 ≡ pairBeginNumber S side key label s) × (s ≡ pairBeginState S side session key label s)
+  pub begin-short : (t : Parameters) (key label : List ℕ) → (1 ≡ pairBeginNumber S t key label s) × (s ≡ pairBeginState S t key label s)
   unfolding pairBeginNumber pairBeginState first
-  begin-short side session key label = (rw (ne-eqb (length s) (stateBytes S) h), rw (ne-eqb (length s) (stateBytes S) h))
+  begin-short t key label = (rw (ne-eqb (length s) (stateBytes S) h), rw (ne-eqb (length s) (stateBytes S) h))
 
-  pub step-short : (f file : List ℕ) (n : ℕ) → (1 ≡ pairStepNumber S s f file n) × (s ≡ pairStepState S s f file n) × (pairStepWritten S s f file n ≡ [])
+  pub step-short : (f : List ℕ) (lent : Files) (n : ℕ) → (1 ≡ pairStepNumber S s f lent n) × (s ≡ pairStepState S s f lent n) × (pairStepWritten S s f lent n ≡ [])
   unfolding pairStepNumber pairStepState pairStepWritten first
-  step-short f file n = (rw (ne-eqb (length s) (stateBytes S) h), rw (ne-eqb (length s) (stateBytes S) h), rw (ne-eqb (length s) (stateBytes S) h))
+  step-short f lent n = (rw (ne-eqb (length s) (stateBytes S) h), rw (ne-eqb (length s) (stateBytes S) h), rw (ne-eqb (length s) (stateBytes S) h))
 
 -- ---- a slice of its length
 
 module _ (S : Scheme) (s : List ℕ) (h : length s ≡ stateBytes S) where
-  pub begin-long : (side session : ℕ) (key label : List ℕ)
-      → (begin S side session key label .result ≡ pairBeginNumber S side key label s)
-      × (encodeState (begin S side session key label .next) ≡ pairBeginState S side session key label s)
+  pub begin-long : (t : Parameters) (key label : List ℕ)
+      → (begin S t key label .result ≡ pairBeginNumber S t key label s)
+      × (encodeState (begin S t key label .next) ≡ pairBeginState S t key label s)
   unfolding pairBeginNumber pairBeginState first begin
-  begin-long side session key label = (rw (eq-eqb (length s) (stateBytes S) h), rw (eq-eqb (length s) (stateBytes S) h) (pick (eqb (beginNumber S side key label) 0)))
+  begin-long t key label = (rw (eq-eqb (length s) (stateBytes S) h), rw (eq-eqb (length s) (stateBytes S) h) (pick (eqb (beginNumber S t key label) 0)))
     where
-      pick : (b : Bool) → encodeState (cond b (begun S (parameters side session) key label) (idle S))
-          ≡ cond b (encodeState (begun S (parameters side session) key label)) (encodeState (idle S))
+      pick : (b : Bool) → encodeState (cond b (begun S t key label) (idle S))
+          ≡ cond b (encodeState (begun S t key label)) (encodeState (idle S))
       pick true = refl
       pick false = refl
 
-  module _ (f file : List ℕ) (n : ℕ) where
-    pub by-number : sliceStep S s f file n .result ≡ pairStepNumber S s f file n
+  module _ (f : List ℕ) (lent : Files) (n : ℕ) where
+    pub by-number : sliceStep S s f lent n .result ≡ pairStepNumber S s f lent n
     unfolding pairStepNumber first
-    by-number = rw (eq-eqb (length s) (stateBytes S) h) (step-result S (decodeState S s) f file n)
+    by-number = rw (eq-eqb (length s) (stateBytes S) h) (step-result S (decodeState S s) f lent n)
 
-    pub by-written : sliceStep S s f file n .written ≡ pairStepWritten S s f file n
+    pub by-written : sliceStep S s f lent n .written ≡ pairStepWritten S s f lent n
     unfolding pairStepWritten
     by-written = rw (eq-eqb (length s) (stateBytes S) h)
 
     abbrev number : ℕ
-    number = numberFor S (decodeState S s) f file n
+    number = numberFor S (decodeState S s) f lent n
 
     -- a refused step leaves the slice and writes nothing
-    pub slice-refused : (number ≡ 0 → ⊥) → (number ≡ pairStepNumber S s f file n) × (s ≡ pairStepState S s f file n) × ([] ≡ pairStepWritten S s f file n)
+    pub slice-refused : (number ≡ 0 → ⊥) → (number ≡ pairStepNumber S s f lent n) × (s ≡ pairStepState S s f lent n) × ([] ≡ pairStepWritten S s f lent n)
     unfolding pairStepState
     slice-refused z =
-        let e = step-result S (decodeState S s) f file n in
-        let r = step-refused S (decodeState S s) f file n (λ q. z (sym e ∙ q)) in (
+        let e = step-result S (decodeState S s) f lent n in
+        let r = step-refused S (decodeState S s) f lent n (λ q. z (sym e ∙ q)) in (
           sym e ∙ by-number,
-          rw (← by-number, ne-eqb (sliceStep S s f file n .result) 0 (λ q. z (sym e ∙ q))),
+          rw (← by-number, ne-eqb (sliceStep S s f lent n .result) 0 (λ q. z (sym e ∙ q))),
           sym (ap (λ (t : Stepped). t .written) r) ∙ by-written,
         )
 
     -- an accepted one puts the next state there
     pub slice-accepted : number ≡ 0
-        → (0 ≡ pairStepNumber S s f file n)
-        × (encodeState (advance S (decodeState S s) (bodyOf f) file .next) ≡ pairStepState S s f file n)
-        × (advance S (decodeState S s) (bodyOf f) file .written ≡ pairStepWritten S s f file n)
+        → (0 ≡ pairStepNumber S s f lent n)
+        × (encodeState (advance S (decodeState S s) (bodyOf f) lent .next) ≡ pairStepState S s f lent n)
+        × (advance S (decodeState S s) (bodyOf f) lent .written ≡ pairStepWritten S s f lent n)
     unfolding pairStepState
     slice-accepted z =
-        let e = step-result S (decodeState S s) f file n ∙ z in
-        let r = step-accepted S (decodeState S s) f file n z in (
+        let e = step-result S (decodeState S s) f lent n ∙ z in
+        let r = step-accepted S (decodeState S s) f lent n z in (
           sym e ∙ by-number,
-          sym (rw (← by-number, eq-eqb (sliceStep S s f file n .result) 0 e) (ap (λ (t : Stepped). encodeState (t .next)) r)),
+          sym (rw (← by-number, eq-eqb (sliceStep S s f lent n .result) 0 e) (ap (λ (t : Stepped). encodeState (t .next)) r)),
           sym (ap (λ (t : Stepped). t .written) r) ∙ by-written,
         )

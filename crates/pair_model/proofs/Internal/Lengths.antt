@@ -6,7 +6,7 @@ use lib.ListN.{length, length-append}
 use Rattle.linear_model.specs.Bits.{addBits}
 use Rattle.linear_model.proofs.Strings.{bytes-add, bytes-append}
 use Rattle.linear_model.proofs.Linearity.{bytes-matrix}
-use Rattle.pair_model.specs.Scheme.{field, concat}
+use Rattle.pair_model.specs.Scheme.{Files, field, concat}
 use Rattle.pair_model.specs.Base.{base}
 use Rattle.pair_model.specs.Tape.{dealLayout}
 use Rattle.pair_model.specs.Frame.{Parameters, openKind, maskKind, shareKind, header, frame, frameBytes}
@@ -31,12 +31,12 @@ deal-length u body =
 
 -- ---- an open frame
 
-pub open-length : (u : State) (body file : List ℕ) → frameBytes base maskKind ≡ length (takeOpen base u body file .written)
+pub open-length : (u : State) (body : List ℕ) (lent : Files) → frameBytes base maskKind ≡ length (takeOpen base u body lent .written)
 unfolding takeOpen
-open-length u body file = sym (length-frame 3 _ _ ∙ ap (λ (n : ℕ). 6 + n) (bytes-mask-of base file (u .parameters .side) _ _ (u .secrets .keyMask) (u .secrets .labelMask) (u .secrets .z) .size))
+open-length u body lent = sym (length-frame 3 _ _ ∙ ap (λ (n : ℕ). 6 + n) (bytes-mask-of base lent (u .parameters .side) _ _ (u .secrets .keyMask) (u .secrets .labelMask) (u .secrets .z) .size))
 
 -- ---- a mask frame
 
-pub share-length : (u : State) (body file : List ℕ) → frameBytes base shareKind ≡ length (takeMask base u body file .written)
+pub share-length : (u : State) (body : List ℕ) (lent : Files) → frameBytes base shareKind ≡ length (takeMask base u body lent .written)
 unfolding takeMask shareOf codeOf
-share-length u body file = sym (length-frame 4 _ _ ∙ ap (λ (n : ℕ). 6 + n) (bytes-matrix 11 32 81 _ _ .size))
+share-length u body lent = sym (length-frame 4 _ _ ∙ ap (λ (n : ℕ). 6 + n) (bytes-matrix 11 32 81 _ _ .size))

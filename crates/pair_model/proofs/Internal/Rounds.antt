@@ -10,13 +10,13 @@ use lib.Seq.{take-at, drop-at, take-all}
 use Rattle.linear_model.specs.Bits.{Bytes, zeros}
 use Rattle.linear_model.specs.Trits.{fitTrits}
 use Rattle.linear_model.proofs.Strings.{bytes-slice, bytes-add, bytes-append}
-use Rattle.numbers.specs.Number.{first, output}
+use Rattle.numbers.specs.Number.{first, merge, output}
 use Rattle.matrix_model.specs.File.{checkNumber}
 use Rattle.numbers.proofs.Numbers.{denied, is-true}
-use Rattle.pair_model.specs.Scheme.{concat, Side, side0, side1, other, sideByte, fileNumber}
+use Rattle.pair_model.specs.Scheme.{files, noFiles, readingNumber, concat, Side, side0, side1, other, sideByte}
 use Rattle.pair_model.specs.Base.{base}
 use Rattle.pair_model.specs.Tape.{Accepted, K̃, x̃, z, r0, deal}
-use Rattle.pair_model.specs.Frame.{frame, bodyOf}
+use Rattle.pair_model.specs.Frame.{sharedParameters, parameters, frame, bodyOf}
 use Rattle.pair_model.specs.Dealer.{dealFrame, dealt, dealConditions, dealNumber}
 use Rattle.pair_model.specs.Unit.{State, Stepped, Beginning, begin, leastOutput, stepNumber, step, takeMask, advance}
 use Rattle.pair_model.specs.Join.{joined}
@@ -46,19 +46,20 @@ module _ (input : List ℕ) (n : ℕ) (f : RunFits input n) (small : (i : ℕ) �
 
   -- what the run is given
   abbrev given : Inputs
-  given = record { key = inputKey base input; label = inputLabel base input; session = 1; file = inputFile base input }
+  given = record { key = inputKey base input; label = inputLabel base input; shared = sharedParameters 1; files = files (inputFile base input) }
 
   abbrev tape : List ℕ
   tape = inputTape base input
 
   well : WellFormed base given
-  unfolding fileNumber checkNumber
+  unfolding readingNumber checkNumber first
   well =
       record {
         key = λ i. elim i [ side0 ↦ rw (← key-0 input) (bytes-slice 6528 0 32 input bytes (lit≤ tt)) | side1 ↦ rw (← key-1 input) (bytes-slice 6528 32 32 input bytes (lit≤ tt)) ];
         label = λ i. elim i [ side0 ↦ rw (← label-0 input) (bytes-slice 6528 64 32 input bytes (lit≤ tt)) | side1 ↦ rw (← label-1 input) (bytes-slice 6528 96 32 input bytes (lit≤ tt)) ];
-        session = lit< tt;
-        file = f .file;
+        shared = record { session = lit< tt };
+        product = refl;
+        rows = f .file;
       }
 
   accepted-tape : Accepted base tape
@@ -70,10 +71,10 @@ module _ (input : List ℕ) (n : ℕ) (f : RunFits input n) (small : (i : ℕ) �
 
   -- a step at the frame that is waited for
   takes : (i : Side) (k : ℕ) → k < 3 → (u : State) (g : List ℕ) → u ≡ unit i k → g ≡ incoming base given tape i k
-      → step base u g (inputFile base input) 70 ≡ record { result = 0; written = getD (outgoing base given tape i) k []; next = unit i (suc k) }
+      → step base u g (files (inputFile base input)) 70 ≡ record { result = 0; written = getD (outgoing base given tape i) k []; next = unit i (suc k) }
   takes i k l u g eu eg =
-      (λ j. step base (eu j) (eg j) (inputFile base input) 70)
-      ∙ accepts base base-linear given tape well accepted-tape i (inputFile base input) 70 (lit≤ tt) k l (λ t. refl)
+      (λ j. step base (eu j) (eg j) (files (inputFile base input)) 70)
+      ∙ accepts base base-linear given tape well accepted-tape i (files (inputFile base input)) 70 (lit≤ tt) k l refl
 
   -- what side i has sent after k + 1 steps
   pub record Sent (i : Side) (k : ℕ) (sent : List ℕ) (next : State) : Type 0 where
@@ -81,7 +82,7 @@ module _ (input : List ℕ) (n : ℕ) (f : RunFits input n) (small : (i : ℕ) �
     pub next-is : next ≡ unit i (suc k)
 
   pub sends : (i : Side) (k : ℕ) → k < 3 → {sent : List ℕ} {next : State} (u : State) (g : List ℕ) → u ≡ unit i k → g ≡ incoming base given tape i k
-      → Sends (step base u g (inputFile base input) 70) sent next → Sent i k sent next
+      → Sends (step base u g (files (inputFile base input)) 70) sent next → Sent i k sent next
   sends i k l u g eu eg s =
       record {
         sent-is = s .frame-is ∙ ap (λ (t : Stepped). padded (t .written)) (takes i k l u g eu eg);
@@ -89,31 +90,31 @@ module _ (input : List ℕ) (n : ℕ) (f : RunFits input n) (small : (i : ℕ) �
       }
 
   -- the beginning
-  pub begun-is : (i : Side) → begin base (sideByte i) 1 (inputKey base input i) (inputLabel base input i) .next ≡ unit i 0
+  pub begun-is : (i : Side) → begin base (parameters (sideByte i) 1) (inputKey base input i) (inputLabel base input i) .next ≡ unit i 0
   unfolding unitAt
   begun-is i = ap (λ (b : Beginning). b .next) (begins-as base given well i)
 
   -- the deal, which reads no file
-  pub deal-is : (i : Side) → dealFrame base 1 [] tape i ≡ incoming base given tape i 0
+  pub deal-is : (i : Side) → dealFrame base (sharedParameters 1) noFiles tape i ≡ incoming base given tape i 0
   unfolding incoming dealFrame deal z
   deal-is side0 = refl
   deal-is side1 = refl
 
   -- it is accepted
-  pub deal-accepted : (i : Side) → let u = begin base (sideByte i) 1 (inputKey base input i) (inputLabel base input i) .next in
-      stepNumber base (u .parameters) (u .stage) (dealFrame base 1 [] tape i) (inputFile base input) (leastOutput base) ≡ 0
+  pub deal-accepted : (i : Side) → let u = begin base (parameters (sideByte i) 1) (inputKey base input i) (inputLabel base input i) .next in
+      stepNumber base (u .parameters) (u .stage) (dealFrame base (sharedParameters 1) noFiles tape i) (files (inputFile base input)) (leastOutput base) ≡ 0
   unfolding unitAt
   deal-accepted i =
-      (λ j. stepNumber base (begun-is i j .parameters) (begun-is i j .stage) (deal-is i j) (inputFile base input) (leastOutput base))
-      ∙ accepts-deal base base-linear given tape well accepted-tape i (inputFile base input) (leastOutput base) (lit≤ tt)
+      (λ j. stepNumber base (begun-is i j .parameters) (begun-is i j .stage) (deal-is i j) (files (inputFile base input)) (leastOutput base))
+      ∙ accepts-deal base base-linear given tape well accepted-tape i (files (inputFile base input)) (leastOutput base) (lit≤ tt)
 
   -- and so is the other's open frame
   pub open-accepted : (i : Side) (u : State) (g file : List ℕ) → u ≡ unit i 1 → g ≡ incoming base given tape i 1 → file ≡ inputFile base input
-      → stepNumber base (u .parameters) (u .stage) g file (leastOutput base) ≡ 0
+      → stepNumber base (u .parameters) (u .stage) g (files file) (leastOutput base) ≡ 0
   unfolding unitAt
   open-accepted i u g file eu eg ef =
-      (λ j. stepNumber base (eu j .parameters) (eu j .stage) (eg j) (ef j) (leastOutput base))
-      ∙ accepts-open base base-linear given tape well accepted-tape i (inputFile base input) (leastOutput base) (lit≤ tt) (λ t. refl)
+      (λ j. stepNumber base (eu j .parameters) (eu j .stage) (eg j) (files (ef j)) (leastOutput base))
+      ∙ accepts-open base base-linear given tape well accepted-tape i (files (inputFile base input)) (leastOutput base) (lit≤ tt) refl
 
   -- the frames that a unit takes are the other's
   open-length : (i : Side) → length (openBody base given tape i) ≡ 64
@@ -138,19 +139,19 @@ module _ (input : List ℕ) (n : ℕ) (f : RunFits input n) (small : (i : ℕ) �
 
   -- at the other's mask frame the step of a unit gets no number, so it takes the mask
   takes-mask : (i : Side)
-      → takeMask base (unit i 2) (bodyOf (incoming base given tape i 2)) (inputFile base input) ≡ step base (unit i 2) (incoming base given tape i 2) (inputFile base input) 70
+      → takeMask base (unit i 2) (bodyOf (incoming base given tape i 2)) (files (inputFile base input)) ≡ step base (unit i 2) (incoming base given tape i 2) (files (inputFile base input)) 70
   unfolding unitAt advance
   takes-mask i =
-      sym (step-accepted base (unit i 2) (incoming base given tape i 2) (inputFile base input) 70
-      (accepts-mask base base-linear given tape well accepted-tape i (inputFile base input) 70 (lit≤ tt) (λ t. refl)))
+      sym (step-accepted base (unit i 2) (incoming base given tape i 2) (files (inputFile base input)) 70
+      (accepts-mask base base-linear given tape well accepted-tape i (files (inputFile base input)) 70 (lit≤ tt) refl))
 
   -- and what it writes is made of the rows alone
   pub share-is : (i : Side) (u : State) (g file sent : List ℕ) → u ≡ unit i 2 → g ≡ incoming base given tape i 2 → file ≡ inputFile base input
-      → sent ≡ takeMask base u (bodyOf g) file .written → sent ≡ shareFrameOf base given tape i
+      → sent ≡ takeMask base u (bodyOf g) (files file) .written → sent ≡ shareFrameOf base given tape i
   unfolding outgoing
   share-is i u g file sent eu eg ef e =
       e
-      ∙ (λ j. takeMask base (eu j) (bodyOf (eg j)) (ef j) .written)
+      ∙ (λ j. takeMask base (eu j) (bodyOf (eg j)) (files (ef j)) .written)
       ∙ ap (λ (t : Stepped). t .written) (takes-mask i ∙ takes i 2 (lit< tt) (unit i 2) (incoming base given tape i 2) refl refl)
 
   -- and their join is the code
@@ -159,44 +160,44 @@ module _ (input : List ℕ) (n : ℕ) (f : RunFits input n) (small : (i : ℕ) �
   join-is a b ea eb = (λ j. joined base (ea j) (eb j)) ∙ joins-to-code base given tape base-linear
 
 -- both frames of a deal that was written over 332 bytes
-module _ (t : List ℕ) (h : Accepted base t) (r : ℕ) (o : List ℕ) (e : r ≡ dealNumber base t 332) (w : o ≡ output r (dealt base 1 [] t) (zeros 332)) where
+module _ (t : List ℕ) (h : Accepted base t) (r : ℕ) (o : List ℕ) (e : r ≡ dealNumber base noFiles t 332) (w : o ≡ output r (dealt base (sharedParameters 1) noFiles t) (zeros 332)) where
   number-0 : r ≡ 0
-  unfolding first dealConditions
+  unfolding first merge dealConditions
   number-0 = e ∙ rw (eq-eqb (length t) 256 (h .bytes .size), is-true (fitTrits 32 256 (r0 base t)) (h .fit))
 
-  deal-long : (i : Side) → length (dealFrame base 1 [] t i) ≡ 166
+  deal-long : (i : Side) → length (dealFrame base (sharedParameters 1) noFiles t i) ≡ 166
   unfolding dealFrame
-  deal-long i = length-frame 1 _ (deal base [] t i) ∙ ap (λ (k : ℕ). 6 + k) (bytes-deal base [] t h i .size)
+  deal-long i = length-frame 1 _ (deal base noFiles t i) ∙ ap (λ (k : ℕ). 6 + k) (bytes-deal base noFiles t h i .size)
 
-  whole : o ≡ dealFrame base 1 [] t side0 ++ dealFrame base 1 [] t side1
+  whole : o ≡ dealFrame base (sharedParameters 1) noFiles t side0 ++ dealFrame base (sharedParameters 1) noFiles t side1
   unfolding output dealt
   whole =
-      let l : length (dealFrame base 1 [] t side0 ++ dealFrame base 1 [] t side1) ≡ 332 =
-      length-append (dealFrame base 1 [] t side0) (dealFrame base 1 [] t side1) ∙ (λ i. deal-long side0 i + deal-long side1 i) in
-      w ∙ ap (λ (k : ℕ). output k (dealt base 1 [] t) (zeros 332)) number-0
-      ∙ ap (λ (k : ℕ). (dealFrame base 1 [] t side0 ++ dealFrame base 1 [] t side1) ++ drop k (zeros 332)) l
-      ∙ append-nil (dealFrame base 1 [] t side0 ++ dealFrame base 1 [] t side1)
+      let l : length (dealFrame base (sharedParameters 1) noFiles t side0 ++ dealFrame base (sharedParameters 1) noFiles t side1) ≡ 332 =
+      length-append (dealFrame base (sharedParameters 1) noFiles t side0) (dealFrame base (sharedParameters 1) noFiles t side1) ∙ (λ i. deal-long side0 i + deal-long side1 i) in
+      w ∙ ap (λ (k : ℕ). output k (dealt base (sharedParameters 1) noFiles t) (zeros 332)) number-0
+      ∙ ap (λ (k : ℕ). (dealFrame base (sharedParameters 1) noFiles t side0 ++ dealFrame base (sharedParameters 1) noFiles t side1) ++ drop k (zeros 332)) l
+      ∙ append-nil (dealFrame base (sharedParameters 1) noFiles t side0 ++ dealFrame base (sharedParameters 1) noFiles t side1)
 
-  deal-0 : take 166 o ≡ dealFrame base 1 [] t side0
-  deal-0 = ap (take 166) whole ∙ take-at (dealFrame base 1 [] t side0) (dealFrame base 1 [] t side1) 166 (deal-long side0)
+  deal-0 : take 166 o ≡ dealFrame base (sharedParameters 1) noFiles t side0
+  deal-0 = ap (take 166) whole ∙ take-at (dealFrame base (sharedParameters 1) noFiles t side0) (dealFrame base (sharedParameters 1) noFiles t side1) 166 (deal-long side0)
 
-  deal-1 : take 166 (drop 166 o) ≡ dealFrame base 1 [] t side1
+  deal-1 : take 166 (drop 166 o) ≡ dealFrame base (sharedParameters 1) noFiles t side1
   deal-1 =
       ap (λ (x : List ℕ). take 166 (drop 166 x)) whole
-      ∙ ap (take 166) (drop-at (dealFrame base 1 [] t side0) (dealFrame base 1 [] t side1) 166 (deal-long side0))
-      ∙ take-all 166 (dealFrame base 1 [] t side1) (omega (arith, deal-long side1))
+      ∙ ap (take 166) (drop-at (dealFrame base (sharedParameters 1) noFiles t side0) (dealFrame base (sharedParameters 1) noFiles t side1) 166 (deal-long side0))
+      ∙ take-all 166 (dealFrame base (sharedParameters 1) noFiles t side1) (omega (arith, deal-long side1))
 
 -- and of the tape in the program's input
 module _ (input : List ℕ) (n : ℕ) (f : RunFits input n) (small : (i : ℕ) → getD input i 0 < 256) (r : ℕ) (o : List ℕ)
-    (e : r ≡ dealNumber base (take 256 (drop 128 input)) 332) (w : o ≡ output r (dealt base 1 [] (take 256 (drop 128 input))) (zeros 332)) where
-  abbrev number-is : r ≡ dealNumber base (inputTape base input) 332
-  number-is = e ∙ ap (λ (t : List ℕ). dealNumber base t 332) (tape-is input)
+    (e : r ≡ dealNumber base noFiles (take 256 (drop 128 input)) 332) (w : o ≡ output r (dealt base (sharedParameters 1) noFiles (take 256 (drop 128 input))) (zeros 332)) where
+  abbrev number-is : r ≡ dealNumber base noFiles (inputTape base input) 332
+  number-is = e ∙ ap (λ (t : List ℕ). dealNumber base noFiles t 332) (tape-is input)
 
-  abbrev output-is : o ≡ output r (dealt base 1 [] (inputTape base input)) (zeros 332)
-  output-is = w ∙ ap (λ (t : List ℕ). output r (dealt base 1 [] t) (zeros 332)) (tape-is input)
+  abbrev output-is : o ≡ output r (dealt base (sharedParameters 1) noFiles (inputTape base input)) (zeros 332)
+  output-is = w ∙ ap (λ (t : List ℕ). output r (dealt base (sharedParameters 1) noFiles t) (zeros 332)) (tape-is input)
 
-  pub input-deal-0 : take 166 o ≡ dealFrame base 1 [] (inputTape base input) side0
+  pub input-deal-0 : take 166 o ≡ dealFrame base (sharedParameters 1) noFiles (inputTape base input) side0
   input-deal-0 = deal-0 (inputTape base input) (accepted-tape input n f small) r o number-is output-is
 
-  pub input-deal-1 : take 166 (drop 166 o) ≡ dealFrame base 1 [] (inputTape base input) side1
+  pub input-deal-1 : take 166 (drop 166 o) ≡ dealFrame base (sharedParameters 1) noFiles (inputTape base input) side1
   input-deal-1 = deal-1 (inputTape base input) (accepted-tape input n f small) r o number-is output-is

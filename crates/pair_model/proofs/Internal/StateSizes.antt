@@ -2,16 +2,16 @@
 use mathlib.Core.Path.{_≡_, refl, sym, ap, _∙_, subst}
 use mathlib.Core.List.{List, [], _∷_}
 use mathlib.Core.Bool.{Bool, true, false, cond}
-use Prim.Native.Nat.{ℕ, zero, suc, _+_, _^_, _<_}
+use Prim.Native.Nat.{ℕ, zero, suc, _+_, _<_}
 use native.Mathlib.Nat.{suc-ne-zero}
 use native.Mathlib.Omega.{arith}
 use lib.Dec.{eqb, eqb→eq, lit<}
 use Rattle.linear_model.specs.Bits.{Bytes, addBits}
 use Rattle.linear_model.proofs.Strings.{bytes-add, bytes-append, bytes-zeros}
 use Rattle.numbers.proofs.Numbers.{holds}
-use Rattle.pair_model.specs.Scheme.{Scheme, layoutBytes, field}
+use Rattle.pair_model.specs.Scheme.{Files, Scheme, layoutBytes, field}
 use Rattle.pair_model.specs.Tape.{dealLayout}
-use Rattle.pair_model.specs.Frame.{Parameters, parameters, dealKind, openKind, maskKind, shareKind, header, frame, headerBytes, bodyOf, openLayout, frameBytes}
+use Rattle.pair_model.specs.Frame.{Parameters, parameters, FitsHeader, dealKind, openKind, maskKind, shareKind, header, frame, headerBytes, bodyOf, openLayout, frameBytes}
 use Rattle.pair_model.specs.Unit.{State, state, Stepped, halves, nothing, shareOf, beginNumber, begin, takeDeal, takeOpen, takeMask, advance, step}
 use Rattle.pair_model.specs.StateSlice.{stateBytes, secretsLayout, encodeState, decodeState, Sized}
 use Rattle.pair_model.specs.Calls.{AreBytes}
@@ -56,7 +56,7 @@ module _ (S : Scheme) where
       record {
         stage = h .small 0;
         side = h .small 1;
-        session = omega (arith, h .small 2, h .small 3, h .small 4, h .small 5);
+        shared = record { session = omega (arith, h .small 2, h .small 3, h .small 4, h .small 5) };
         key = cut .0;
         label = cut .1 .0;
         keyMask = cut .1 .1 .0;
@@ -72,13 +72,13 @@ module _ (S : Scheme) where
   -- ---- beginnings
 
   -- without a deal
-  sized-halves : (t : Parameters) (stage : ℕ) (key label : List ℕ) → stage < 256 → t .side < 256 → t .session < 2 ^ 32
+  sized-halves : (t : Parameters) (stage : ℕ) (key label : List ℕ) → stage < 256 → t .side < 256 → FitsHeader (t .shared)
       → Bytes (S .keyBytes) key → Bytes (S .keyBytes) label → Sized S (state t stage (halves S key label))
   sized-halves t stage key label hn hs ht hk hl =
       record {
         stage = hn;
         side = hs;
-        session = ht;
+        shared = ht;
         key = hk;
         label = hl;
         keyMask = bytes-zeros (S .keyBytes);
@@ -89,23 +89,23 @@ module _ (S : Scheme) where
       }
 
   -- with zeros for all: idle or done
-  sized-cleared : (t : Parameters) (stage : ℕ) → stage < 256 → t .side < 256 → t .session < 2 ^ 32 → Sized S (state t stage (nothing S))
+  sized-cleared : (t : Parameters) (stage : ℕ) → stage < 256 → t .side < 256 → FitsHeader (t .shared) → Sized S (state t stage (nothing S))
   sized-cleared t stage hn hs ht =
       sized-halves t stage (nothing S .key) (nothing S .label) hn hs ht (bytes-zeros (S .keyBytes)) (bytes-zeros (S .keyBytes))
 
   -- of halves that are bytes, refused or not
-  pub sized-begin : (side session : ℕ) (key label : List ℕ) → session < 2 ^ 32 → AreBytes key → AreBytes label → Sized S (begin S side session key label .next)
-  sized-begin side session key label hs hk hl = pick (beginNumber S side key label) refl
+  pub sized-begin : (t : Parameters) (key label : List ℕ) → FitsHeader (t .shared) → AreBytes key → AreBytes label → Sized S (begin S t key label .next)
+  sized-begin t key label hs hk hl = pick (beginNumber S t key label) refl
     where
-      pick : (n : ℕ) → beginNumber S side key label ≡ n → Sized S (begin S side session key label .next)
+      pick : (n : ℕ) → beginNumber S t key label ≡ n → Sized S (begin S t key label .next)
       pick zero e =
-          let f = begin-fits S side session key label e in
-          subst (Sized S) (sym (begin-accepted S side session key label e))
-          (sized-halves (parameters side session) dealKind key label (lit< tt) (omega (arith, f .side-small)) hs
+          let f = begin-fits S t key label e in
+          subst (Sized S) (sym (begin-accepted S t key label e))
+          (sized-halves t dealKind key label (lit< tt) (omega (arith, f .side-small)) hs
           (record { size = f .key-length; small = hk }) (record { size = f .label-length; small = hl }))
       pick (suc n) e =
-          subst (Sized S) (sym (begin-refused S side session key label (λ z. suc-ne-zero n (sym e ∙ z))))
-          (sized-cleared (parameters 0 0) 0 (lit< tt) (lit< tt) (lit< tt))
+          subst (Sized S) (sym (begin-refused S t key label (λ z. suc-ne-zero n (sym e ∙ z))))
+          (sized-cleared (parameters 0 0) 0 (lit< tt) (lit< tt) (record { session = lit< tt }))
 
   -- ---- steps
 
@@ -114,7 +114,7 @@ module _ (S : Scheme) where
     next : Sized S (s .next)
     written : AreBytes (s .written)
 
-  module _ (u : State) (h : Sized S u) (body file : List ℕ) where
+  module _ (u : State) (h : Sized S u) (body : List ℕ) (lent : Files) where
     held-deal : Bytes (layoutBytes (dealLayout S)) body → Held (takeDeal S u body)
     unfolding takeDeal field fieldsOf
     held-deal b =
@@ -123,7 +123,7 @@ module _ (S : Scheme) where
               record {
                 stage = lit< tt;
                 side = h .side;
-                session = h .session;
+                shared = h .shared;
                 key = h .key;
                 label = h .label;
                 keyMask = cut .0;
@@ -146,7 +146,7 @@ module _ (S : Scheme) where
         cut : Laid (dealLayout S) (fieldsOf (dealLayout S) body)
         cut = laid-fields (dealLayout S) body b
 
-    held-open : Held (takeOpen S u body file)
+    held-open : Held (takeOpen S u body lent)
     unfolding takeOpen
     held-open =
         record {
@@ -154,52 +154,52 @@ module _ (S : Scheme) where
               record {
                 stage = lit< tt;
                 side = h .side;
-                session = h .session;
+                shared = h .shared;
                 key = h .key;
                 label = h .label;
                 keyMask = h .keyMask;
                 labelMask = h .labelMask;
                 z = h .z;
                 r = h .r;
-                ownMask = bytes-mask-of S file _ _ _ _ _ _;
+                ownMask = bytes-mask-of S lent _ _ _ _ _ _;
               };
-          written = bytes-frame maskKind (u .parameters) (lit< tt) (h .side) (bytes-mask-of S file _ _ _ _ _ _) .small;
+          written = bytes-frame maskKind (u .parameters) (lit< tt) (h .side) (bytes-mask-of S lent _ _ _ _ _ _) .small;
         }
 
-    held-mask : Held (takeMask S u body file)
+    held-mask : Held (takeMask S u body lent)
     unfolding takeMask shareOf
     held-mask =
         record {
-          next = sized-cleared (u .parameters) 4 (lit< tt) (h .side) (h .session);
-          written = bytes-frame shareKind (u .parameters) (lit< tt) (h .side) (bytes-code S file _) .small;
+          next = sized-cleared (u .parameters) 4 (lit< tt) (h .side) (h .shared);
+          written = bytes-frame shareKind (u .parameters) (lit< tt) (h .side) (bytes-code S lent _) .small;
         }
 
-    held-advance : (u .stage ≡ dealKind → Bytes (layoutBytes (dealLayout S)) body) → Held (advance S u body file)
+    held-advance : (u .stage ≡ dealKind → Bytes (layoutBytes (dealLayout S)) body) → Held (advance S u body lent)
     unfolding advance
     held-advance b = pick (eqb (u .stage) dealKind) refl (eqb (u .stage) openKind)
       where
         pick : (d : Bool) → eqb (u .stage) dealKind ≡ d → (o : Bool)
-            → Held (cond d (takeDeal S u body) (cond o (takeOpen S u body file) (takeMask S u body file)))
+            → Held (cond d (takeDeal S u body) (cond o (takeOpen S u body lent) (takeMask S u body lent)))
         pick true e o = held-deal (b (eqb→eq (u .stage) dealKind (holds _ e)))
         pick false e true = held-open
         pick false e false = held-mask
 
-  module _ (u : State) (h : Sized S u) (f : List ℕ) (small : AreBytes f) (file : List ℕ) (outputLength : ℕ) where
-    held-step : Held (step S u f file outputLength)
-    held-step = pick (numberFor S u f file outputLength) refl
+  module _ (u : State) (h : Sized S u) (f : List ℕ) (small : AreBytes f) (lent : Files) (outputLength : ℕ) where
+    held-step : Held (step S u f lent outputLength)
+    held-step = pick (numberFor S u f lent outputLength) refl
       where
-        pick : (n : ℕ) → numberFor S u f file outputLength ≡ n → Held (step S u f file outputLength)
+        pick : (n : ℕ) → numberFor S u f lent outputLength ≡ n → Held (step S u f lent outputLength)
         pick zero e =
-            let long = fits S (u .parameters) (u .stage) f file outputLength e .frame-length in
-            subst (Held) (sym (step-accepted S u f file outputLength e))
-            (held-advance u h (bodyOf f) file (λ d. bytes-drop headerBytes {s = f} (record { size = long ∙ ap (frameBytes S) d; small = small })))
+            let long = fits S (u .parameters) (u .stage) f lent outputLength e .frame-length in
+            subst (Held) (sym (step-accepted S u f lent outputLength e))
+            (held-advance u h (bodyOf f) lent (λ d. bytes-drop headerBytes {s = f} (record { size = long ∙ ap (frameBytes S) d; small = small })))
         pick (suc n) e =
-            subst (Held) (sym (step-refused S u f file outputLength (λ z. suc-ne-zero n (sym e ∙ sym (step-result S u f file outputLength) ∙ z))))
+            subst (Held) (sym (step-refused S u f lent outputLength (λ z. suc-ne-zero n (sym e ∙ sym (step-result S u f lent outputLength) ∙ z))))
             (record { next = h; written = λ i. lit< tt })
 
     -- of a frame of bytes, refused or not, and whatever the file is
-    pub sized-step : Sized S (step S u f file outputLength .next)
+    pub sized-step : Sized S (step S u f lent outputLength .next)
     sized-step = held-step .next
 
-    pub bytes-written : AreBytes (step S u f file outputLength .written)
+    pub bytes-written : AreBytes (step S u f lent outputLength .written)
     bytes-written = held-step .written

@@ -1,26 +1,25 @@
 -- The number of a step by its parts, and what their tests tell.
-use mathlib.Core.Path.{_≡_, sym, ap, _∙_}
+use mathlib.Core.Path.{_≡_, sym, _∙_, subst}
 use mathlib.Core.List.{List, _++_}
-use mathlib.Core.Bool.{Bool, true, not, _&&_}
 use Prim.Native.Nat.{ℕ}
-use lib.Dec.{eqb, lit<}
+use lib.Dec.{lit<}
 use lib.ListN.{length}
 use Rattle.numbers.specs.Number.{Condition, first}
 use Rattle.numbers.proofs.Numbers.{Positive, NoneHolds, none-holds, first-before, first-after, is-equal}
-use Rattle.pair_model.specs.Scheme.{Scheme}
+use Rattle.pair_model.specs.Scheme.{Files, Scheme}
 use Rattle.pair_model.specs.Frame.{Parameters, dealKind, maskKind, kindOf, frameBytes}
-use Rattle.pair_model.specs.Unit.{readsFile, lengthConditions, headerConditions, contentConditions, stepConditions, stepNumber}
+use Rattle.pair_model.specs.Unit.{stepReading, lengthConditions, headerConditions, contentConditions, stepConditions, stepNumber}
 use Rattle.pair_model.proofs.Theorem.HeaderLaws.{whole-read}
 
-module _ (S : Scheme) (t : Parameters) (stage : ℕ) (f file : List ℕ) (n : ℕ) where
+module _ (S : Scheme) (t : Parameters) (stage : ℕ) (f : List ℕ) (lent : Files) (n : ℕ) where
   abbrev lengths : List Condition
-  lengths = lengthConditions S f file n
+  lengths = lengthConditions S f lent n
 
   abbrev headers : List Condition
   headers = headerConditions S t stage f
 
   abbrev content : List Condition
-  content = contentConditions S f file
+  content = contentConditions S f lent
 
   lengths-positive : Positive lengths
   lengths-positive = (lit< tt, (lit< tt, tt))
@@ -29,15 +28,15 @@ module _ (S : Scheme) (t : Parameters) (stage : ℕ) (f file : List ℕ) (n : �
   headers-positive = (lit< tt, (lit< tt, (lit< tt, (lit< tt, (lit< tt, tt)))))
 
   -- the first part that has a number decides
-  pub number-of-lengths : (first lengths ≡ 0 → ⊥) → first lengths ≡ stepNumber S t stage f file n
+  pub number-of-lengths : (first lengths ≡ 0 → ⊥) → first lengths ≡ stepNumber S t stage f lent n
   unfolding stepConditions
   number-of-lengths h = sym (first-before lengths (headers ++ content) h)
 
-  pub number-of-headers : first lengths ≡ 0 → (first headers ≡ 0 → ⊥) → first headers ≡ stepNumber S t stage f file n
+  pub number-of-headers : first lengths ≡ 0 → (first headers ≡ 0 → ⊥) → first headers ≡ stepNumber S t stage f lent n
   unfolding stepConditions
   number-of-headers e h = sym (first-after lengths (headers ++ content) lengths-positive e ∙ first-before headers content h)
 
-  pub number-of-content : first lengths ≡ 0 → first headers ≡ 0 → first content ≡ stepNumber S t stage f file n
+  pub number-of-content : first lengths ≡ 0 → first headers ≡ 0 → first content ≡ stepNumber S t stage f lent n
   unfolding stepConditions
   number-of-content e g = sym (first-after lengths (headers ++ content) lengths-positive e ∙ first-after headers content headers-positive g)
 
@@ -47,9 +46,9 @@ module _ (S : Scheme) (t : Parameters) (stage : ℕ) (f file : List ℕ) (n : �
     length-tests : NoneHolds lengths
     length-tests = none-holds lengths lengths-positive e
 
-    -- a file that is read has its length
-    pub file-long : readsFile S f ≡ true → length file ≡ S .fileBytes
-    file-long r = is-equal (length file) (S .fileBytes) (ap (λ (b : Bool). b && not (eqb (length file) (S .fileBytes))) (sym r) ∙ length-tests .1 .0)
+    -- what is read for the rows has its length
+    pub rows-long : kindOf f ≡ maskKind → length (S .rowsReading .content lent) ≡ S .rowsReading .bytes
+    rows-long k = subst (λ (kind : ℕ). length (stepReading S kind .content lent) ≡ stepReading S kind .bytes) k (is-equal _ _ (length-tests .1 .0))
 
   module _ (g : first headers ≡ 0) where
     header-tests : NoneHolds headers

@@ -1,5 +1,5 @@
 -- A list of C calls is a run: by induction over the list, slices stay bytes and stand for the run's configuration.
-use Prim.Native.Nat.{ℕ, zero, suc, _-_, _^_, _<_}
+use Prim.Native.Nat.{ℕ, zero, suc, _-_, _<_}
 use mathlib.Core.Path.{_≡_, refl, sym, ap, _∙_, subst}
 use mathlib.Core.List.{List, [], _∷_, _++_}
 use mathlib.Core.Bool.{Bool, true, false, cond}
@@ -7,9 +7,9 @@ use native.Mathlib.Nat.{suc-ne-zero}
 use lib.Dec.{eqb, lit<}
 use lib.ListN.{length, getD, take}
 use Rattle.linear_model.specs.Bits.{Bytes}
-use Rattle.pair_model.specs.Scheme.{Scheme, Side, side0, side1, sideByte, other}
+use Rattle.pair_model.specs.Scheme.{Files, Scheme, Side, side0, side1, sideByte, other}
 use Rattle.pair_model.specs.Tape.{Accepted}
-use Rattle.pair_model.specs.Frame.{dealKind, kindOf}
+use Rattle.pair_model.specs.Frame.{Parameters, parametersOf, FitsHeader, dealKind, kindOf}
 use Rattle.pair_model.specs.Unit.{Stepped, begin}
 use Rattle.pair_model.specs.Dealer.{dealFrame}
 use Rattle.pair_model.specs.Run.{Protocol, protocol, WellFormed, Run, Configuration, Delivery, asSent, stray, Entry, update, start, framesFor, frameOf, stepOf, next, final}
@@ -24,39 +24,39 @@ use Rattle.pair_model.proofs.Internal.StateSizes.{bytes-frame, bytes-en
 
 -- ---- single calls
 
-module _ (S : Scheme) (s : List ℕ) (long : length s ≡ stateBytes S) (side session : ℕ) (key label : List ℕ) (hs : session < 2 ^ 32)
+module _ (S : Scheme) (s : List ℕ) (long : length s ≡ stateBytes S) (t : Parameters) (key label : List ℕ) (hs : FitsHeader (t .shared))
     (hk : AreBytes key) (hl : AreBytes label) where
   -- a beginning leaves bytes, which stand for the model's state
-  pub bytes-begun : Bytes (stateBytes S) (pairBeginState S side session key label s)
-  bytes-begun = subst (Bytes (stateBytes S)) (begin-long S s long side session key label .1) (bytes-encoded S _ (sized-begin S side session key label hs hk hl))
+  pub bytes-begun : Bytes (stateBytes S) (pairBeginState S t key label s)
+  bytes-begun = subst (Bytes (stateBytes S)) (begin-long S s long t key label .1) (bytes-encoded S _ (sized-begin S t key label hs hk hl))
 
-  pub decoded-begun : decodeState S (pairBeginState S side session key label s) ≡ begin S side session key label .next
-  decoded-begun = ap (decodeState S) (sym (begin-long S s long side session key label .1)) ∙ decode-encode S _ (sized-begin S side session key label hs hk hl)
+  pub decoded-begun : decodeState S (pairBeginState S t key label s) ≡ begin S t key label .next
+  decoded-begun = ap (decodeState S) (sym (begin-long S s long t key label .1)) ∙ decode-encode S _ (sized-begin S t key label hs hk hl)
 
-module _ (S : Scheme) (s : List ℕ) (long : length s ≡ stateBytes S) (hs : AreBytes s) (f : List ℕ) (hf : AreBytes f) (file : List ℕ) (n : ℕ) where
+module _ (S : Scheme) (s : List ℕ) (long : length s ≡ stateBytes S) (hs : AreBytes s) (f : List ℕ) (hf : AreBytes f) (lent : Files) (n : ℕ) where
   -- and so does a step
   record Stands (t : List ℕ) : Type 0 where
     bytes : Bytes (stateBytes S) t
-    is : decodeState S t ≡ sliceStep S s f file n .next
+    is : decodeState S t ≡ sliceStep S s f lent n .next
 
-  stands : Stands (pairStepState S s f file n)
-  stands = pick (numberFor S (decodeState S s) f file n) refl
+  stands : Stands (pairStepState S s f lent n)
+  stands = pick (numberFor S (decodeState S s) f lent n) refl
     where
-      pick : (k : ℕ) → numberFor S (decodeState S s) f file n ≡ k → Stands (pairStepState S s f file n)
+      pick : (k : ℕ) → numberFor S (decodeState S s) f lent n ≡ k → Stands (pairStepState S s f lent n)
       pick zero e =
-          let a = step-accepted S (decodeState S s) f file n e in
-          let sized = sized-step S (decodeState S s) (sized-decoded S s (record { size = long; small = hs })) f hf file n in
-          subst Stands (ap (λ (t : Stepped). encodeState (t .next)) a ∙ slice-accepted S s long f file n e .1)
+          let a = step-accepted S (decodeState S s) f lent n e in
+          let sized = sized-step S (decodeState S s) (sized-decoded S s (record { size = long; small = hs })) f hf lent n in
+          subst Stands (ap (λ (t : Stepped). encodeState (t .next)) a ∙ slice-accepted S s long f lent n e .1)
           (record { bytes = bytes-encoded S _ sized; is = decode-encode S _ sized })
       pick (suc k) e =
-          let r = step-refused S (decodeState S s) f file n (λ z. suc-ne-zero k (sym e ∙ sym (step-result S (decodeState S s) f file n) ∙ z)) in
-          subst Stands (slice-refused S s long f file n (λ z. suc-ne-zero k (sym e ∙ z)) .1)
+          let r = step-refused S (decodeState S s) f lent n (λ z. suc-ne-zero k (sym e ∙ sym (step-result S (decodeState S s) f lent n) ∙ z)) in
+          subst Stands (slice-refused S s long f lent n (λ z. suc-ne-zero k (sym e ∙ z)) .1)
           (record { bytes = record { size = long; small = hs }; is = sym (ap (λ (t : Stepped). t .next) r) })
 
-  pub bytes-stepped : Bytes (stateBytes S) (pairStepState S s f file n)
+  pub bytes-stepped : Bytes (stateBytes S) (pairStepState S s f lent n)
   bytes-stepped = stands .bytes
 
-  pub decoded-stepped : decodeState S (pairStepState S s f file n) ≡ sliceStep S s f file n .next
+  pub decoded-stepped : decodeState S (pairStepState S s f lent n) ≡ sliceStep S s f lent n .next
   decoded-stepped = stands .is
 
 -- ---- what holds of both sides, and of all frames, also after a call
@@ -97,9 +97,9 @@ module _ (S : Scheme) (run : Run) (well : WellFormed S (run .inputs)) (tape : Ac
 
   -- ---- one call of a list
 
-  bytes-dealt : (i : Side) → AreBytes (dealFrame S (run .inputs .session) (run .inputs .file) (run .tape) i)
+  bytes-dealt : (i : Side) → AreBytes (dealFrame S (run .inputs .shared) (run .inputs .files) (run .tape) i)
   unfolding dealFrame
-  bytes-dealt i = bytes-frame dealKind (parametersAt S (run .inputs) (run .tape) i) (lit< tt) (low i) (bytes-deal S (run .inputs .file) (run .tape) tape i) .small
+  bytes-dealt i = bytes-frame dealKind (parametersAt S (run .inputs) (run .tape) i) (lit< tt) (low i) (bytes-deal S (run .inputs .files) (run .tape) tape i) .small
     where
       low : (i : Side) → sideByte i < 256
       low side0 = lit< tt
@@ -133,26 +133,26 @@ module _ (S : Scheme) (run : Run) (well : WellFormed S (run .inputs)) (tape : Ac
       bytes-f : AreBytes f
       bytes-f = handed-bytes (e .side) (e .delivery) b
 
-      number-is : sliceStep S s f (e .file) (e .outputLength) .result ≡ callNumber S run c e
-      number-is = by-number S s (bytes-s .size) f (e .file) (e .outputLength)
+      number-is : sliceStep S s f (e .files) (e .outputLength) .result ≡ callNumber S run c e
+      number-is = by-number S s (bytes-s .size) f (e .files) (e .outputLength)
 
-      written-is : sliceStep S s f (e .file) (e .outputLength) .written ≡ callWritten S run c e
-      written-is = by-written S s (bytes-s .size) f (e .file) (e .outputLength)
+      written-is : sliceStep S s f (e .files) (e .outputLength) .written ≡ callWritten S run c e
+      written-is = by-written S s (bytes-s .size) f (e .files) (e .outputLength)
 
-      state-is : decodeState S (callState S run c e) ≡ sliceStep S s f (e .file) (e .outputLength) .next
-      state-is = decoded-stepped S s (bytes-s .size) (bytes-s .small) f bytes-f (e .file) (e .outputLength)
+      state-is : decodeState S (callState S run c e) ≡ sliceStep S s f (e .files) (e .outputLength) .next
+      state-is = decoded-stepped S s (bytes-s .size) (bytes-s .small) f bytes-f (e .files) (e .outputLength)
 
-      step-is : sliceStep S s f (e .file) (e .outputLength) ≡ stepOf P run (decoded S c) e
-      step-is = ap (λ (f : List ℕ). sliceStep S s f (e .file) (e .outputLength)) (same-frame (e .side) (e .delivery))
+      step-is : sliceStep S s f (e .files) (e .outputLength) ≡ stepOf P run (decoded S c) e
+      step-is = ap (λ (f : List ℕ). sliceStep S s f (e .files) (e .outputLength)) (same-frame (e .side) (e .delivery))
 
       -- it is seen as the run's step is
       same-event : callEvent S run c e ≡ eventOf P run (decoded S c) e
       same-event =
-          (λ j. record { frame = f; file = e .file; result = sym number-is j; written = sym written-is j; after = state-is j })
+          (λ j. record { frame = f; files = e .files; result = sym number-is j; written = sym written-is j; after = state-is j })
           ∙ (λ j.
           record {
             frame = same-frame (e .side) (e .delivery) j;
-            file = e .file;
+            files = e .files;
             result = step-is j .result;
             written = step-is j .written;
             after = step-is j .next;
@@ -173,11 +173,11 @@ module _ (S : Scheme) (run : Run) (well : WellFormed S (run .inputs)) (tape : Ac
       unfolding afterCall
       held-after =
           record {
-            states = update-all (Bytes (stateBytes S)) (e .side) _ (c .state) (bytes-stepped S s (bytes-s .size) (bytes-s .small) f bytes-f (e .file) (e .outputLength)) (h .states);
+            states = update-all (Bytes (stateBytes S)) (e .side) _ (c .state) (bytes-stepped S s (bytes-s .size) (bytes-s .small) f bytes-f (e .files) (e .outputLength)) (h .states);
             frames =
                 update-all Frames (e .side) _ (c .sent)
                 (frames-if (eqb (callNumber S run c e) 0) (c .sent (e .side)) (callWritten S run c e) (h .frames (e .side))
-                (subst AreBytes written-is (bytes-written S (decodeState S s) (sized-decoded S s bytes-s) f bytes-f (e .file) (e .outputLength))))
+                (subst AreBytes written-is (bytes-written S (decodeState S s) (sized-decoded S s bytes-s) f bytes-f (e .files) (e .outputLength))))
                 (h .frames);
           }
 
@@ -196,8 +196,8 @@ module _ (S : Scheme) (run : Run) (well : WellFormed S (run .inputs)) (tape : Ac
     begun-held =
         record {
           states =
-              λ i. bytes-begun S (before i) (long i) (sideByte i) (run .inputs .session) (run .inputs .key i) (run .inputs .label i)
-              (well .session) (well .key i .small) (well .label i .small);
+              λ i. bytes-begun S (before i) (long i) (parametersOf i (run .inputs .shared)) (run .inputs .key i) (run .inputs .label i)
+              (well .shared) (well .key i .small) (well .label i .small);
           frames = λ i k j. lit< tt;
         }
 
@@ -206,8 +206,8 @@ module _ (S : Scheme) (run : Run) (well : WellFormed S (run .inputs)) (tape : Ac
         λ j.
         record {
           unit =
-              λ i. decoded-begun S (before i) (long i) (sideByte i) (run .inputs .session) (run .inputs .key i) (run .inputs .label i)
-              (well .session) (well .key i .small) (well .label i .small) j;
+              λ i. decoded-begun S (before i) (long i) (parametersOf i (run .inputs .shared)) (run .inputs .key i) (run .inputs .label i)
+              (well .shared) (well .key i .small) (well .label i .small) j;
           sent = λ i. [];
         }
 
@@ -215,8 +215,8 @@ pub states-fit : (S : Scheme) → StatesFit S
 states-fit S =
     record {
       begins = sized-begin S;
-      steps = λ u f file n h b. sized-step S u h f b file n;
-      writes = λ u f file n h b. bytes-written S u h f b file n;
+      steps = λ u f lent n h b. sized-step S u h f b lent n;
+      writes = λ u f lent n h b. bytes-written S u h f b lent n;
       encoded = bytes-encoded S;
       readBack = decode-encode S;
       decodes = sized-decoded S;
@@ -226,7 +226,7 @@ pub calls-are-runs : (S : Scheme) → CallsAreRuns S
 calls-are-runs S run well tape before long =
     let all = same-list S run well tape _ _ (begun-start S run well tape before long) (begun-held S run well tape before long) in
     record {
-      begins = λ i. sym (begin-long S (before i) (long i) (sideByte i) (run .inputs .session) (run .inputs .key i) (run .inputs .label i) .0);
+      begins = λ i. sym (begin-long S (before i) (long i) (parametersOf i (run .inputs .shared)) (run .inputs .key i) (run .inputs .label i) .0);
       events = λ es b. all es b .0;
       after = λ es b. all es b .1;
     }

@@ -3,16 +3,16 @@ use Prim.Native.Nat.{ℕ, zero, suc, _-_, _≤_, _<_}
 use mathlib.Core.Path.{_≡_, refl, sym, ap, _∙_, subst}
 use mathlib.Core.Logic.{_≢_}
 use mathlib.Core.List.{List, [], _∷_, _++_}
-use mathlib.Core.Bool.{Bool, false, cond, not}
+use mathlib.Core.Bool.{false, cond, not}
 use native.Mathlib.Omega.{arith}
-use lib.Dec.{T, eqb, ltb, eqb·suc-zero}
+use lib.Dec.{eqb, ltb, eqb·suc-zero}
 use lib.ListN.{length, getD, take}
 use lib.Seq.{take-suc}
 use Rattle.numbers.specs.Number.{_when_, first}
-use Rattle.pair_model.specs.Scheme.{Scheme, Linear, Side, side0, side1, sideByte, other}
+use Rattle.pair_model.specs.Scheme.{Files, Scheme, Linear, Side, side0, side1, sideByte, other}
 use Rattle.pair_model.specs.Tape.{Accepted}
-use Rattle.pair_model.specs.Frame.{frame, header}
-use Rattle.pair_model.specs.Unit.{Stepped, Beginning, refused, begin, beginConditions, begun, idle, step, readsFile, leastOutput}
+use Rattle.pair_model.specs.Frame.{parametersOf, frame, header, kindOf}
+use Rattle.pair_model.specs.Unit.{Stepped, Beginning, refused, begin, beginConditions, begun, idle, step, stepReading, leastOutput}
 use Rattle.pair_model.specs.Dealer.{dealFrame}
 use Rattle.pair_model.specs.Run.{Protocol, protocol, Inputs, WellFormed, Run, runOf, Configuration, asSent, stray, entry, update, start, framesFor, frameOf, stepOf, next, DeliveredAsSent}
 use Rattle.numbers.proofs.Numbers.{equal}
@@ -39,11 +39,11 @@ put-under i g p n = λ j s. at i s j
     at side1 side1 = refl
 
 -- a stray entry changes nothing
-pub next-stray : (S : Scheme) (run : Run) (c : Configuration) (i : Side) (f file : List ℕ) (outputLength : ℕ)
-    → stepOf (protocol S) run c (entry i (stray f) file outputLength) .result ≢ 0
-    → next (protocol S) run c (entry i (stray f) file outputLength) ≡ c
+pub next-stray : (S : Scheme) (run : Run) (c : Configuration) (i : Side) (f : List ℕ) (lent : Files) (outputLength : ℕ)
+    → stepOf (protocol S) run c (entry i (stray f) lent outputLength) .result ≢ 0
+    → next (protocol S) run c (entry i (stray f) lent outputLength) ≡ c
 unfolding next
-next-stray S run c i f file outputLength h =
+next-stray S run c i f lent outputLength h =
     (λ j.
     record {
       unit = update i (e j .next) (c .unit);
@@ -52,10 +52,10 @@ next-stray S run c i f file outputLength h =
     ∙ (λ j. record { unit = put-back i (c .unit) j; sent = kept j })
   where
     number : ℕ
-    number = numberFor S (c .unit i) f file outputLength
+    number = numberFor S (c .unit i) f lent outputLength
 
-    e : step S (c .unit i) f file outputLength ≡ refused number (c .unit i)
-    e = step-refused S (c .unit i) f file outputLength h
+    e : step S (c .unit i) f lent outputLength ≡ refused number (c .unit i)
+    e = step-refused S (c .unit i) f lent outputLength h
 
     pick : (n : ℕ) → n ≢ 0 → cond (eqb n 0) (c .sent i ++ ([] ∷ [])) (c .sent i) ≡ c .sent i
     pick zero h = absurd (h refl)
@@ -63,12 +63,8 @@ next-stray S run c i f file outputLength h =
 
     kept : update i (cond (eqb number 0) (c .sent i ++ ([] ∷ [])) (c .sent i)) (c .sent) ≡ c .sent
     kept =
-        ap (λ (l : List (List ℕ)). update i l (c .sent)) (pick number (λ z. h (step-result S (c .unit i) f file outputLength ∙ z)))
+        ap (λ (l : List (List ℕ)). update i l (c .sent)) (pick number (λ z. h (step-result S (c .unit i) f lent outputLength ∙ z)))
         ∙ put-back i (c .sent)
-
--- whether the step that takes frame n reads the file, of the kind n + 1 alone
-abbrev pub readsAt : Scheme → ℕ → Bool
-readsAt S n = readsFile S (suc n ∷ [])
 
 module _ (S : Scheme) (a : Inputs) (tape : List ℕ) where
   -- the configuration with so many frames accepted by each side
@@ -87,7 +83,7 @@ module _ (S : Scheme) (a : Inputs) (tape : List ℕ) where
   -- ---- the frame that a unit waits for is there exactly when the other unit has gone as far
 
   abbrev arrived : Side → ℕ → List (List ℕ)
-  arrived i q = dealFrame S (a .session) (a .file) tape i ∷ take 2 (take q (outgoing S a tape (other i)))
+  arrived i q = dealFrame S (a .shared) (a .files) tape i ∷ take 2 (take q (outgoing S a tape (other i)))
 
   not-ahead : (i : Side) (n q : ℕ) → unitAt S a tape i n .stage ≤ length (arrived i q) → (n < 3) × (n ≤ q)
   unfolding unitAt outgoing
@@ -123,21 +119,21 @@ module _ (S : Scheme) (a : Inputs) (tape : List ℕ) where
   unfolding outgoing
   three i = refl
 
-  -- by the count alone, whether the file is read
-  reads : (i : Side) (n : ℕ) → n < 3 → readsFile S (incoming S a tape i n) ≡ readsAt S n
-  unfolding incoming dealFrame frame header readsFile
-  reads i zero l = refl
-  reads i (suc zero) l = refl
-  reads i (suc (suc zero)) l = refl
-  reads i (suc (suc (suc n))) l = absurd (omega arith)
+  -- its kind is known by the count alone
+  kind-at : (i : Side) (n : ℕ) → n < 3 → kindOf (incoming S a tape i n) ≡ suc n
+  unfolding incoming dealFrame frame header
+  kind-at i zero l = refl
+  kind-at i (suc zero) l = refl
+  kind-at i (suc (suc zero)) l = refl
+  kind-at i (suc (suc (suc n))) l = absurd (omega arith)
 
 -- ---- an entry as sent, by the counts alone
 
--- the unit is not done and not ahead of the other, a file that it reads is the run's, the output slice is long enough
-pub record Ready (S : Scheme) (runFile : List ℕ) (p : Side → ℕ) (i : Side) (file : List ℕ) (outputLength : ℕ) : Type 0 where
+-- the unit is not done and not ahead of the other, what it reads of its files is the run's, the output slice is long enough
+pub record Ready (S : Scheme) (own : Files) (p : Side → ℕ) (i : Side) (lent : Files) (outputLength : ℕ) : Type 0 where
   pub notDone : p i < 3
   pub notAhead : p i ≤ p (other i)
-  pub right : T (readsAt S (p i)) → file ≡ runFile
+  pub right : stepReading S (suc (p i)) .content lent ≡ stepReading S (suc (p i)) .content own
   pub long : leastOutput S ≤ outputLength
 
 module _ (S : Scheme) (a : Inputs) (tape : List ℕ) (p : Side → ℕ) (i : Side) where
@@ -165,48 +161,51 @@ module _ (S : Scheme) (a : Inputs) (tape : List ℕ) (p : Side → ℕ) (i : Sid
   unfolding configurationAt
   frame-is l m = there S a tape i (p i) (p (other i)) l m .frame
 
-  reads-is : p i < 3 → p i ≤ p (other i) → readsFile S (frameOf P R C i asSent) ≡ readsAt S (p i)
-  reads-is l m = ap (readsFile S) (frame-is l m) ∙ reads S a tape i (p i) l
+  kind-is : p i < 3 → p i ≤ p (other i) → kindOf (frameOf P R C i asSent) ≡ suc (p i)
+  kind-is l m = ap kindOf (frame-is l m) ∙ kind-at S a tape i (p i) l
 
-  module _ (file : List ℕ) (outputLength : ℕ) where
+  -- what is read of two records of files at a frame of this kind is the same
+  abbrev SameAt : Files → ℕ → Type 0
+  SameAt lent kind = stepReading S kind .content lent ≡ stepReading S kind .content (a .files)
+
+  module _ (lent : Files) (outputLength : ℕ) where
     -- an entry as sent is ready by its counts
-    pub ready-of : DeliveredAsSent P R C (entry i asSent file outputLength) → Ready S (a .file) p i file outputLength
+    pub ready-of : DeliveredAsSent P R C (entry i asSent lent outputLength) → Ready S (a .files) p i lent outputLength
     ready-of v =
         let c = counts-of (v .written) in
         record {
           notDone = c .0;
           notAhead = c .1;
-          right = λ t. v .file (subst T (sym (reads-is (c .0) (c .1))) t);
+          right = subst (SameAt lent) (kind-is (c .0) (c .1)) (v .files);
           long = v .output;
         }
 
-    module _ (ready : Ready S (a .file) p i file outputLength) where
+    module _ (ready : Ready S (a .files) p i lent outputLength) where
       -- and one that is ready is as sent
-      pub delivered-of : DeliveredAsSent P R C (entry i asSent file outputLength)
+      pub delivered-of : DeliveredAsSent P R C (entry i asSent lent outputLength)
       delivered-of =
           let t = there-of (ready .notDone) (ready .notAhead) in
           record {
             waiting = t .0;
             written = t .1;
-            file = λ e. ready .right (subst T (reads-is (ready .notDone) (ready .notAhead)) e);
+            files = subst (SameAt lent) (sym (kind-is (ready .notDone) (ready .notAhead))) (ready .right);
             output = ready .long;
           }
 
       module _ (L : Linear S) (well : WellFormed S a) (h : Accepted S tape) where
         -- its step is the accepted one
-        pub step-sent : stepOf P R C (entry i asSent file outputLength) ≡ accepted S L a tape well h i file outputLength (ready .long) (p i)
+        pub step-sent : stepOf P R C (entry i asSent lent outputLength) ≡ accepted S L a tape well h i lent outputLength (ready .long) (p i)
         unfolding configurationAt
         step-sent =
-            ap (λ (f : List ℕ). step S (unitAt S a tape i (p i)) f file outputLength) (frame-is (ready .notDone) (ready .notAhead))
-            ∙ accepts S L a tape well h i file outputLength (ready .long) (p i) (ready .notDone)
-            (λ t. ready .right (subst T (reads S a tape i (p i) (ready .notDone)) t))
+            ap (λ (f : List ℕ). step S (unitAt S a tape i (p i)) f lent outputLength) (frame-is (ready .notDone) (ready .notAhead))
+            ∙ accepts S L a tape well h i lent outputLength (ready .long) (p i) (ready .notDone) (ready .right)
 
         -- so it returns 0
-        pub sent-accepted : stepOf P R C (entry i asSent file outputLength) .result ≡ 0
+        pub sent-accepted : stepOf P R C (entry i asSent lent outputLength) .result ≡ 0
         sent-accepted = ap (λ (s : Stepped). s .result) step-sent
 
         -- an entry as sent takes the unit one stage on
-        pub next-sent : next P R C (entry i asSent file outputLength) ≡ configurationAt S a tape (update i (suc (p i)) p)
+        pub next-sent : next P R C (entry i asSent lent outputLength) ≡ configurationAt S a tape (update i (suc (p i)) p)
         unfolding next configurationAt
         next-sent =
             (λ j.
@@ -237,7 +236,7 @@ module _ (S : Scheme) (a : Inputs) (well : WellFormed S a) where
   fresh i = record { result = 0; next = begun S (parametersAt S a [] i) (a .key i) (a .label i) }
 
   -- it is accepted
-  pub begins-as : (i : Side) → begin S (sideByte i) (a .session) (a .key i) (a .label i) ≡ fresh i
+  pub begins-as : (i : Side) → begin S (parametersOf i (a .shared)) (a .key i) (a .label i) ≡ fresh i
   unfolding begin first beginConditions
   begins-as i = λ j. record { result = none j; next = cond (eqb (none j) 0) (fresh i .next) (idle S) }
     where
@@ -245,7 +244,7 @@ module _ (S : Scheme) (a : Inputs) (well : WellFormed S a) where
       low side0 = refl
       low side1 = refl
 
-      none : first (beginConditions S (sideByte i) (a .key i) (a .label i)) ≡ 0
+      none : first (beginConditions S (parametersOf i (a .shared)) (a .key i) (a .label i)) ≡ 0
       none =
           λ j. first (1 when not (equal (length (a .key i)) (S .keyBytes) (well .key i .size) j)
           ∷ 1 when not (equal (length (a .label i)) (S .keyBytes) (well .label i .size) j) ∷ 2 when low i j ∷ [])

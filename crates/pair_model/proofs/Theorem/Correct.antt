@@ -8,8 +8,8 @@ use lib.Dec.{lit<, lit≤}
 use lib.ListN.{length, getD, take}
 use mathlib.Core.Bool.{not}
 use Rattle.linear_model.proofs.Strings.{bytes-add}
-use Rattle.numbers.specs.Number.{_when_, first}
-use Rattle.pair_model.specs.Scheme.{Scheme, Linear, Side, side0, side1, other, total}
+use Rattle.numbers.specs.Number.{_when_, first, merge}
+use Rattle.pair_model.specs.Scheme.{Files, faultsIn, Scheme, Linear, Side, side0, side1, other, total}
 use Rattle.pair_model.specs.Tape.{Accepted}
 use Rattle.pair_model.specs.Frame.{codeBytes}
 use Rattle.pair_model.specs.Evaluator.{evaluateConditions, evaluateNumber}
@@ -17,7 +17,7 @@ use Rattle.pair_model.specs.Unit.{Beginning, doneStage, leastOutput}
 use Rattle.pair_model.specs.Join.{joinNumber, joined}
 use Rattle.pair_model.specs.Run.{Protocol, protocol, Inputs, WellFormed, Run, runOf, Configuration, Delivery, asSent, stray, Entry, entry, update, countIfSent, sentCount, start, framesFor, stepOf, next, final, Valid, ListOf, DeliveredAsSent}
 use Rattle.pair_model.specs.Theorem.{AcceptedIfSent, AllAccepted, Done, shareFrame, inOrder, ownCode, Available, CorrectRun}
-use Rattle.numbers.proofs.Numbers.{at-least, equal}
+use Rattle.numbers.proofs.Numbers.{at-least, equal, merge-none}
 use Rattle.pair_model.proofs.Theorem.StepLaws.{fit-length, fit-faults}
 use Rattle.pair_model.proofs.Theorem.Stages.{unitAt, outgoing}
 use Rattle.pair_model.proofs.Theorem.Configurations.{configurationAt, stage-at, counts-of, there-of, next-stray, next-sent, sent-accepted, ready-of, delivered-of, Ready, begins-as, start-at}
@@ -56,17 +56,17 @@ module _ (S : Scheme) (L : Linear S) (a : Inputs) (tape : List ℕ) (well : Well
     accepted : AcceptedIfSent P (e .delivery) (stepOf P R c e .result)
     bounded : (i : Side) → countIfSent (e .delivery) (e .side) p i ≤ 3
 
-  played : (p : Side → ℕ) → ((i : Side) → p i ≤ 3) → (i : Side) (d : Delivery) (file : List ℕ) (outputLength : ℕ)
-      → Valid P R (C p) (entry i d file outputLength) d → Played p (entry i d file outputLength) (C p)
-  played p b i asSent file outputLength v =
-      let ready = ready-of S a tape p i file outputLength v in
+  played : (p : Side → ℕ) → ((i : Side) → p i ≤ 3) → (i : Side) (d : Delivery) (lent : Files) (outputLength : ℕ)
+      → Valid P R (C p) (entry i d lent outputLength) d → Played p (entry i d lent outputLength) (C p)
+  played p b i asSent lent outputLength v =
+      let ready = ready-of S a tape p i lent outputLength v in
       record {
-        configuration = next-sent S a tape p i file outputLength ready L well h;
-        accepted = sent-accepted S a tape p i file outputLength ready L well h;
+        configuration = next-sent S a tape p i lent outputLength ready L well h;
+        accepted = sent-accepted S a tape p i lent outputLength ready L well h;
         bounded = count-up i p (ready .notDone) b;
       }
-  played p b i (stray f) file outputLength v =
-      record { configuration = next-stray S R (C p) i f file outputLength v; accepted = tt; bounded = b }
+  played p b i (stray f) lent outputLength v =
+      record { configuration = next-stray S R (C p) i f lent outputLength v; accepted = tt; bounded = b }
 
   -- ---- the whole list
 
@@ -83,7 +83,7 @@ module _ (S : Scheme) (L : Linear S) (a : Inputs) (tape : List ℕ) (well : Well
       none i = omega arith
   progress p c e b (x ∷ es) v =
       let v₀ : Valid P R (C p) x (x .delivery) = subst (λ (c : Configuration). Valid P R c x (x .delivery)) e (v .0) in
-      let d : Played p x c = subst (λ (c : Configuration). Played p x c) (sym e) (played p b (x .side) (x .delivery) (x .file) (x .outputLength) v₀) in
+      let d : Played p x c = subst (λ (c : Configuration). Played p x c) (sym e) (played p b (x .side) (x .delivery) (x .files) (x .outputLength) v₀) in
       let r = progress (countIfSent (x .delivery) (x .side) p) (next P R c x) (d .configuration) (d .bounded) es (v .1) in
       record {
         accepted = (d .accepted, r .accepted);
@@ -116,7 +116,7 @@ module _ (S : Scheme) (L : Linear S) (a : Inputs) (tape : List ℕ) (well : Well
     available : (e : Entry) → Available P R es e → DeliveredAsSent P R (final P R (start P R) es) e
     available e v =
         let t : There c = subst There (sym reached) (there-of S a tape (sentCount es) i (v .notDone) (v .notAhead)) in
-        record { waiting = t .0; written = t .1; file = v .file; output = v .output }
+        record { waiting = t .0; written = t .1; files = v .files; output = v .output }
       where
         i : Side
         i = e .side
@@ -130,7 +130,7 @@ module _ (S : Scheme) (L : Linear S) (a : Inputs) (tape : List ℕ) (well : Well
     only-available : (e : Entry) → DeliveredAsSent P R (final P R (start P R) es) e → Available P R es e
     only-available e v =
         let t = counts-of S a tape (sentCount es) (e .side) (subst Written reached (v .written)) in
-        record { notDone = t .0; notAhead = t .1; file = v .file; output = v .output }
+        record { notDone = t .0; notAhead = t .1; files = v .files; output = v .output }
       where
         Written : Configuration → Type 0
         Written c = c .unit (e .side) .stage ≤ length (framesFor P R c (e .side))
@@ -165,19 +165,19 @@ module _ (S : Scheme) (L : Linear S) (a : Inputs) (tape : List ℕ) (well : Well
     done : Done P (final P R (C p) es)
 
   one-on : (p : Side → ℕ) (i : Side) {es : List Entry} → p i < 3 → p i ≤ p (other i)
-      → Ends (update i (suc (p i)) p) es → Ends p (entry i asSent (a .file) (leastOutput S) ∷ es)
+      → Ends (update i (suc (p i)) p) es → Ends p (entry i asSent (a .files) (leastOutput S) ∷ es)
   unfolding final
   one-on p i {es} l m r =
       record {
-        list = (delivered-of S a tape p i (a .file) (leastOutput S) ready, subst (λ (c : Configuration). ListOf P R c es) (sym moved) (r .list));
+        list = (delivered-of S a tape p i (a .files) (leastOutput S) ready, subst (λ (c : Configuration). ListOf P R c es) (sym moved) (r .list));
         done = λ j. subst (λ (c : Configuration). final P R c es .unit j .stage ≡ doneStage) (sym moved) (r .done j);
       }
     where
-      ready : Ready S (a .file) p i (a .file) (leastOutput S)
-      ready = record { notDone = l; notAhead = m; right = λ e. refl; long = le-refl (leastOutput S) }
+      ready : Ready S (a .files) p i (a .files) (leastOutput S)
+      ready = record { notDone = l; notAhead = m; right = refl; long = le-refl (leastOutput S) }
 
-      moved : next P R (C p) (entry i asSent (a .file) (leastOutput S)) ≡ C (update i (suc (p i)) p)
-      moved = next-sent S a tape p i (a .file) (leastOutput S) ready L well h
+      moved : next P R (C p) (entry i asSent (a .files) (leastOutput S)) ≡ C (update i (suc (p i)) p)
+      moved = next-sent S a tape p i (a .files) (leastOutput S) ready L well h
 
   in-order-ends : Ends (λ i. 0) (inOrder P R)
   unfolding final configurationAt unitAt
@@ -188,16 +188,17 @@ module _ (S : Scheme) (L : Linear S) (a : Inputs) (tape : List ℕ) (well : Well
 
   -- ---- the evaluator takes the run's key, label and file
 
-  evaluates : evaluateNumber S (total (S .keyBytes) (a .key)) (total (S .keyBytes) (a .label)) (a .file) (codeBytes S) ≡ 0
+  evaluates : evaluateNumber S (total (S .keyBytes) (a .key)) (total (S .keyBytes) (a .label)) (a .files) (codeBytes S) ≡ 0
   unfolding evaluateConditions first
   evaluates =
       (λ j. first
       (1 when not (equal (length (total (S .keyBytes) (a .key))) (S .keyBytes) (bytes-add (S .keyBytes) _ _ .size) j)
       ∷ 1 when not (equal (length (total (S .keyBytes) (a .label))) (S .keyBytes) (bytes-add (S .keyBytes) _ _ .size) j)
-      ∷ 1 when fit-length S (a .file) (well .file) j
+      ∷ 1 when fit-length (S .productReading) (a .files) (well .product) j
+      ∷ 1 when fit-length (S .rowsReading) (a .files) (well .rows) j
       ∷ 1 when at-least (codeBytes S) (codeBytes S) (le-refl (codeBytes S)) j
-      ∷ S .faults (a .file)))
-      ∙ fit-faults S (a .file) (well .file)
+      ∷ merge (faultsIn (S .productReading) (a .files)) (faultsIn (S .rowsReading) (a .files))))
+      ∙ merge-none _ _ (fit-faults (S .productReading) (a .files) (well .product)) (fit-faults (S .rowsReading) (a .files) (well .rows))
 
   -- all that a run gives
   pub correct : CorrectRun P R

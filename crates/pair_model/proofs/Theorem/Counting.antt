@@ -5,7 +5,7 @@ use mathlib.Core.List.{List, [], _∷_}
 use mathlib.Core.Bool.{cond}
 use native.Mathlib.Omega.{arith}
 use lib.Dec.{eqb, eqb·suc-zero}
-use Rattle.pair_model.specs.Scheme.{Scheme}
+use Rattle.pair_model.specs.Scheme.{Files, Scheme}
 use Rattle.pair_model.specs.Frame.{Parameters, bodyOf}
 use Rattle.pair_model.specs.Unit.{State, Stepped, doneStage, stepNumber, takeDeal, takeOpen, takeMask, advance, step}
 use Rattle.pair_model.specs.Run.{Protocol, protocol, Lent}
@@ -14,16 +14,16 @@ use Rattle.pair_model.proofs.Theorem.StepLaws.{fits, numberFor, step-re
 
 module _ (S : Scheme) where
   -- a frame is accepted only at the stages 1 to 3
-  waits : (t : Parameters) (stage : ℕ) (f file : List ℕ) (outputLength : ℕ) → stepNumber S t stage f file outputLength ≡ 0 → (1 ≤ stage) × (stage ≤ 3)
-  waits t stage f file outputLength h = let k = fits S t stage f file outputLength h in (k .low, k .high)
+  waits : (t : Parameters) (stage : ℕ) (f : List ℕ) (lent : Files) (outputLength : ℕ) → stepNumber S t stage f lent outputLength ≡ 0 → (1 ≤ stage) × (stage ≤ 3)
+  waits t stage f lent outputLength h = let k = fits S t stage f lent outputLength h in (k .low, k .high)
 
   -- and takes the unit one stage on
-  moves : (u : State) (body file : List ℕ) → (1 ≤ u .stage) × (u .stage ≤ 3) → advance S u body file .next .stage ≡ suc (u .stage)
+  moves : (u : State) (body : List ℕ) (lent : Files) → (1 ≤ u .stage) × (u .stage ≤ 3) → advance S u body lent .next .stage ≡ suc (u .stage)
   unfolding advance takeDeal takeOpen takeMask
-  moves u body file h = pick (u .stage) (h .0) (h .1)
+  moves u body lent h = pick (u .stage) (h .0) (h .1)
     where
       pick : (n : ℕ) → 1 ≤ n → n ≤ 3
-          → cond (eqb n 1) (takeDeal S u body) (cond (eqb n 2) (takeOpen S u body file) (takeMask S u body file)) .next .stage ≡ suc n
+          → cond (eqb n 1) (takeDeal S u body) (cond (eqb n 2) (takeOpen S u body lent) (takeMask S u body lent)) .next .stage ≡ suc n
       pick zero l m = absurd (omega arith)
       pick (suc zero) l m = refl
       pick (suc (suc zero)) l m = refl
@@ -39,23 +39,23 @@ module _ (S : Scheme) where
     isRefused : counted (s .result) ≡ 0 → s .next ≡ u → Call u s
     isAccepted : counted (s .result) ≡ 1 → 1 ≤ u .stage → u .stage ≤ 3 → s .next .stage ≡ suc (u .stage) → Call u s
 
-  call : (u : State) (f file : List ℕ) (outputLength : ℕ) → Call u (step S u f file outputLength)
-  call u f file outputLength = pick (numberFor S u f file outputLength) refl
+  call : (u : State) (f : List ℕ) (lent : Files) (outputLength : ℕ) → Call u (step S u f lent outputLength)
+  call u f lent outputLength = pick (numberFor S u f lent outputLength) refl
     where
       s : Stepped
-      s = step S u f file outputLength
+      s = step S u f lent outputLength
 
-      result : s .result ≡ numberFor S u f file outputLength
-      result = step-result S u f file outputLength
+      result : s .result ≡ numberFor S u f lent outputLength
+      result = step-result S u f lent outputLength
 
-      pick : (n : ℕ) → numberFor S u f file outputLength ≡ n → Call u s
+      pick : (n : ℕ) → numberFor S u f lent outputLength ≡ n → Call u s
       pick zero e =
-          let w = waits (u .parameters) (u .stage) f file outputLength e in
+          let w = waits (u .parameters) (u .stage) f lent outputLength e in
           isAccepted (rw (result, e)) (w .0) (w .1)
-          (ap (λ (s : Stepped). s .next .stage) (step-accepted S u f file outputLength e) ∙ moves u (bodyOf f) file w)
+          (ap (λ (s : Stepped). s .next .stage) (step-accepted S u f lent outputLength e) ∙ moves u (bodyOf f) lent w)
       pick (suc n) e =
           isRefused (rw (result, e, eqb·suc-zero n))
-          (ap (λ (s : Stepped). s .next) (step-refused S u f file outputLength (λ z. omega (arith, sym result ∙ z, e))))
+          (ap (λ (s : Stepped). s .next) (step-refused S u f lent outputLength (λ z. omega (arith, sym result ∙ z, e))))
 
   abbrev P : Protocol
   P = protocol S
@@ -65,10 +65,10 @@ module _ (S : Scheme) where
 
   counts : (u : State) (ls : List Lent) → u .stage ≤ doneStage → Counted u ls
   counts u [] h = (omega arith, h)
-  counts u (l ∷ ls) h = pick (call u (l .frame) (l .file) (l .outputLength)) (counts (step S u (l .frame) (l .file) (l .outputLength) .next) ls)
+  counts u (l ∷ ls) h = pick (call u (l .frame) (l .files) (l .outputLength)) (counts (step S u (l .frame) (l .files) (l .outputLength) .next) ls)
     where
       s : Stepped
-      s = step S u (l .frame) (l .file) (l .outputLength)
+      s = step S u (l .frame) (l .files) (l .outputLength)
 
       pick : Call u s → (s .next .stage ≤ doneStage → Counted (s .next) ls) → Counted u (l ∷ ls)
       pick (isRefused e n) r =
@@ -81,10 +81,10 @@ module _ (S : Scheme) where
 
   none : (u : State) (ls : List Lent) → WaitsForNone u → acceptedCount P u ls ≡ 0
   none u [] h = refl
-  none u (l ∷ ls) h = pick (call u (l .frame) (l .file) (l .outputLength)) (λ v e. none v ls (subst WaitsForNone (sym e) h))
+  none u (l ∷ ls) h = pick (call u (l .frame) (l .files) (l .outputLength)) (λ v e. none v ls (subst WaitsForNone (sym e) h))
     where
       s : Stepped
-      s = step S u (l .frame) (l .file) (l .outputLength)
+      s = step S u (l .frame) (l .files) (l .outputLength)
 
       pick : Call u s → ((v : State) → v ≡ u → acceptedCount P v ls ≡ 0) → counted (s .result) + acceptedCount P (s .next) ls ≡ 0
       pick (isRefused e n) r = omega (arith, r (s .next) n)
@@ -99,6 +99,6 @@ module _ (S : Scheme) where
         idle = λ u ls h. none u ls (λ w. omega (arith, w .0));
         beyond = λ u ls h. none u ls (λ w. omega (arith, w .1));
         refusal =
-            λ u l h. let e = step-refused S u (l .frame) (l .file) (l .outputLength) h in
+            λ u l h. let e = step-refused S u (l .frame) (l .files) (l .outputLength) h in
             (ap (λ (s : Stepped). s .written) e, ap (λ (s : Stepped). s .next) e);
       }

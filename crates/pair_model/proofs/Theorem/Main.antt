@@ -1,8 +1,10 @@
 -- Demand 3, for every scheme with a product that is linear on both sides, and for the one of document 01.
-use mathlib.Core.Path.{refl, ap}
+use Prim.Native.Nat.{ℕ}
+use mathlib.Core.Path.{ap}
+use mathlib.Core.List.{List}
 use Rattle.linear_model.proofs.Linearity.{circulant-bilinear}
-use Rattle.pair_model.specs.Scheme.{Scheme, Linear}
-use Rattle.pair_model.specs.Base.{base}
+use Rattle.pair_model.specs.Scheme.{Reading, Scheme, Linear}
+use Rattle.pair_model.specs.Base.{circulantScheme, base}
 use Rattle.pair_model.specs.Run.{protocol}
 use Rattle.pair_model.specs.Unit.{Beginning}
 use Rattle.pair_model.specs.Theorem.{Privacy, Begins, Demand3}
@@ -39,10 +41,17 @@ demand3 S L =
 pub begins : (S : Scheme) → Begins (protocol S)
 begins S a well i = ap (λ (b : Beginning). b .result) (begins-as S a well i)
 
--- the circulant product is linear on both sides, and reads no file
+-- the circulant product is linear on both sides
+pub circulant-linear : (n t : ℕ) (reading : Reading) (rows : List ℕ → List ℕ) → Linear (circulantScheme n t reading rows)
+circulant-linear n t reading rows = record { bilinear = λ content. circulant-bilinear n }
+
+-- so demand 3 holds at every number of bits and digits, whatever is read for the rows
+pub circulant-demand3 : (n t : ℕ) (reading : Reading) (rows : List ℕ → List ℕ) → Demand3 (protocol (circulantScheme n t reading rows))
+circulant-demand3 n t reading rows = demand3 (circulantScheme n t reading rows) (circulant-linear n t reading rows)
+
 pub base-linear : Linear base
-base-linear = record { bilinear = λ file. circulant-bilinear 32; unread = λ e f g key label. refl }
+base-linear = circulant-linear 32 81 _ _
 
 -- at 256 bits and 81 digits, with the circulant product and the matrix file: no parameter is left
 pub base-demand3 : Demand3 (protocol base)
-base-demand3 = demand3 base base-linear
+base-demand3 = circulant-demand3 32 81 _ _

@@ -11,7 +11,7 @@ use Rattle.linear_model.specs.Products.{planeBytes, Bilinear}
 use Rattle.linear_model.proofs.Strings.{bit-lt, bit-add, bytes-add, add-ext, add-is, add-comm, add-cross, bitwise}
 use Rattle.linear_model.proofs.Vectors.{trit-bits, subtract-add}
 use Rattle.linear_model.proofs.Linearity.{matrix-add, conversion}
-use Rattle.pair_model.specs.Scheme.{Scheme, Linear, Side, side0, side1, sideByte, other, total}
+use Rattle.pair_model.specs.Scheme.{Files, Scheme, productWith, rowsWith, Linear, Side, side0, side1, sideByte, other, total}
 use Rattle.pair_model.specs.Tape.{K̃, x̃, w̃, z, r, r0}
 use Rattle.pair_model.specs.Evaluator.{codeOf, code}
 use Rattle.pair_model.specs.Unit.{maskOf, shareOf}
@@ -32,11 +32,11 @@ module _ (S : Scheme) (a : Inputs) (tape : List ℕ) where
   -- ŵi
   unfoldable pub mask : Side → List ℕ
   mask i =
-      maskOf S (a .file) (sideByte i) (total (S .keyBytes) openKey) (total (S .keyBytes) openLabel) (K̃ S tape i) (x̃ S tape i) (z S (a .file) tape i)
+      maskOf S (a .files) (sideByte i) (total (S .keyBytes) openKey) (total (S .keyBytes) openLabel) (K̃ S tape i) (x̃ S tape i) (z S (a .files) tape i)
 
   -- the code share of side i
   unfoldable pub share : Side → List ℕ
-  share i = shareOf S (a .file) (sideByte i) (total (S .innerBytes) mask) (r S tape i)
+  share i = shareOf S (a .files) (sideByte i) (total (S .innerBytes) mask) (r S tape i)
 
 -- ---- two products make ŵi
 
@@ -45,16 +45,16 @@ last-first : (n : ℕ) (a b c d : List ℕ) → addBits n (addBits n (addBits n 
 last-first n a b c d = add-ext n (addBits n (addBits n a d) b) c (addBits n (addBits n a b) c) d (λ j l. simp bitwise (omega arith))
 
 -- side 0's K̂ × x̃0 and K̂ × x̂ are K̂ × (x̃0 + x̂)
-module _ (S : Scheme) (L : Linear S) (file : List ℕ) where
+module _ (S : Scheme) (L : Linear S) (lent : Files) where
   abbrev times : List ℕ → List ℕ → List ℕ
-  times = S .product file
+  times = productWith S lent
 
   infixl 70 _+₂_
   abbrev _+₂_ : List ℕ → List ℕ → List ℕ
   u +₂ v = addBits (S .innerBytes) u v
 
   pub mask-of-two : (side : ℕ) (K̂ x̂ K̃ x̃ z : List ℕ)
-      → times K̂ (cond (eqb side 0) (addBits (S .keyBytes) x̃ x̂) x̃) +₂ times K̃ x̂ +₂ z ≡ maskOf S file side K̂ x̂ K̃ x̃ z
+      → times K̂ (cond (eqb side 0) (addBits (S .keyBytes) x̃ x̂) x̃) +₂ times K̃ x̂ +₂ z ≡ maskOf S lent side K̂ x̂ K̃ x̃ z
   unfolding maskOf
   mask-of-two side K̂ x̂ K̃ x̃ z = pick (eqb side 0)
     where
@@ -62,16 +62,16 @@ module _ (S : Scheme) (L : Linear S) (file : List ℕ) where
           → times K̂ (cond b (addBits (S .keyBytes) x̃ x̂) x̃) +₂ times K̃ x̂ +₂ z
           ≡ cond b (times K̂ x̃ +₂ times K̃ x̂ +₂ z +₂ times K̂ x̂) (times K̂ x̃ +₂ times K̃ x̂ +₂ z)
       pick true =
-          ap (λ (p : List ℕ). p +₂ times K̃ x̂ +₂ z) (L .bilinear file .right K̂ x̃ x̂)
+          ap (λ (p : List ℕ). p +₂ times K̃ x̂ +₂ z) (L .bilinear (S .productReading .content lent) .right K̂ x̃ x̂)
           ∙ last-first (S .innerBytes) (times K̂ x̃) (times K̃ x̂) z (times K̂ x̂)
       pick false = refl
 
 -- ---- their lengths
 
 -- a mask has the length of the inner vector, whatever the product gives
-pub bytes-mask-of : (S : Scheme) (file : List ℕ) (side : ℕ) (K̂ x̂ K̃ x̃ z : List ℕ) → Bytes (S .innerBytes) (maskOf S file side K̂ x̂ K̃ x̃ z)
+pub bytes-mask-of : (S : Scheme) (lent : Files) (side : ℕ) (K̂ x̂ K̃ x̃ z : List ℕ) → Bytes (S .innerBytes) (maskOf S lent side K̂ x̂ K̃ x̃ z)
 unfolding maskOf
-bytes-mask-of S file side K̂ x̂ K̃ x̃ z = pick (eqb side 0) _ _ _
+bytes-mask-of S lent side K̂ x̂ K̃ x̃ z = pick (eqb side 0) _ _ _
   where
     n : ℕ
     n = S .innerBytes
@@ -82,7 +82,7 @@ bytes-mask-of S file side K̂ x̂ K̃ x̃ z = pick (eqb side 0) _ _ _
 
 pub bytes-mask : (S : Scheme) (a : Inputs) (tape : List ℕ) (i : Side) → Bytes (S .innerBytes) (mask S a tape i)
 unfolding mask
-bytes-mask S a tape i = bytes-mask-of S (a .file) (sideByte i) _ _ _ _ _
+bytes-mask S a tape i = bytes-mask-of S (a .files) (sideByte i) _ _ _ _ _
 
 -- ---- ŵ is w under its mask
 
@@ -92,11 +92,11 @@ parity a0 a1 b0 b1 d e g w z h = omega arith
 
 module _ (S : Scheme) (L : Linear S) (a : Inputs) (tape : List ℕ) where
   P : List ℕ → List ℕ → List ℕ
-  P = S .product (a .file)
+  P = productWith S (a .files)
 
   linear : Bilinear (S .innerBytes) (S .keyBytes) P
   unfolding P
-  linear = L .bilinear (a .file)
+  linear = L .bilinear (S .productReading .content (a .files))
 
   abbrev sum : (Side → List ℕ) → List ℕ
   sum f = total (S .keyBytes) f
@@ -143,10 +143,10 @@ module _ (S : Scheme) (L : Linear S) (a : Inputs) (tape : List ℕ) where
       halves j l = sym (bit-add (S .innerBytes) _ _ j l) ∙ ap (λ (s : List ℕ). bit s j) masked ∙ bit-add (S .innerBytes) _ _ j l
 
   -- the shares add to the code
-  pub shares-add : addTrits (planeBytes (S .digits)) (share S a tape side0) (share S a tape side1) ≡ code S (sum (a .key)) (sum (a .label)) (a .file)
+  pub shares-add : addTrits (planeBytes (S .digits)) (share S a tape side0) (share S a tape side1) ≡ code S (sum (a .key)) (sum (a .label)) (a .files)
   unfolding share shareOf code codeOf r
   shares-add =
-      matrix-add (planeBytes (S .digits)) m (S .digits) (S .rows (a .file)) (innerShare m 0 ŵ (r0 S tape)) (innerShare m 1 ŵ r1) (bitTrits m w) digits
+      matrix-add (planeBytes (S .digits)) m (S .digits) (rowsWith S (a .files)) (innerShare m 0 ŵ (r0 S tape)) (innerShare m 1 ŵ r1) (bitTrits m w) digits
     where
       m : ℕ
       m = S .innerBytes
@@ -193,21 +193,21 @@ pub record InCommon (S : Scheme) (fixed : Side) (a b : Inputs) (t u : List ℕ) 
   pub inputs : SameForFixed fixed a b
   pub keyMask : K̃ S t fixed ≡ K̃ S u fixed
   pub labelMask : x̃ S t fixed ≡ x̃ S u fixed
-  pub z : z S (a .file) t fixed ≡ z S (b .file) u fixed
+  pub z : z S (a .files) t fixed ≡ z S (b .files) u fixed
   pub r : r S t fixed ≡ r S u fixed
   pub openKey : (i : Side) → openKey S a t i ≡ openKey S b u i
   pub openLabel : (i : Side) → openLabel S a t i ≡ openLabel S b u i
   pub mask : (i : Side) → mask S a t i ≡ mask S b u i
 
-z-parts : (S : Scheme) (file t : List ℕ) (i : Side) → z S file t i ≡ zOf S file (partsOf S t) i
+z-parts : (S : Scheme) (lent : Files) (t : List ℕ) (i : Side) → z S lent t i ≡ zOf S lent (partsOf S t) i
 unfolding z
-z-parts S file t side0 = refl
-z-parts S file t side1 = refl
+z-parts S lent t side0 = refl
+z-parts S lent t side1 = refl
 
-r-parts : (S : Scheme) (file t : List ℕ) (i : Side) → r S t i ≡ rOf S file (partsOf S t) i
+r-parts : (S : Scheme) (lent : Files) (t : List ℕ) (i : Side) → r S t i ≡ rOf S lent (partsOf S t) i
 unfolding r
-r-parts S file t side0 = refl
-r-parts S file t side1 = refl
+r-parts S lent t side0 = refl
+r-parts S lent t side1 = refl
 
 -- what the pairing keeps is all that is needed: the other's mask follows from ŵ by cancelling
 pub in-common : (S : Scheme) → Linear S → (fixed : Side) (a b : Inputs) (t u : List ℕ)
@@ -219,7 +219,7 @@ in-common S L fixed a b t u g k =
       keyMask = k .keyMask;
       labelMask = k .labelMask;
       z = zs;
-      r = r-parts S (a .file) t fixed ∙ k .r ∙ sym (r-parts S (b .file) u fixed);
+      r = r-parts S (a .files) t fixed ∙ k .r ∙ sym (r-parts S (b .files) u fixed);
       openKey = keys;
       openLabel = labels;
       mask =
@@ -230,8 +230,8 @@ in-common S L fixed a b t u g k =
     n : ℕ
     n = S .keyBytes
 
-    zs : z S (a .file) t fixed ≡ z S (b .file) u fixed
-    zs = z-parts S (a .file) t fixed ∙ k .z ∙ sym (z-parts S (b .file) u fixed)
+    zs : z S (a .files) t fixed ≡ z S (b .files) u fixed
+    zs = z-parts S (a .files) t fixed ∙ k .z ∙ sym (z-parts S (b .files) u fixed)
 
     keys : (i : Side) → openKey S a t i ≡ openKey S b u i
     keys = both (λ i. openKey S a t i ≡ openKey S b u i) fixed (ap₂ (addBits n) (g .key) (k .keyMask)) (k .openKey)
@@ -241,7 +241,7 @@ in-common S L fixed a b t u g k =
 
     own : mask S a t fixed ≡ mask S b u fixed
     own =
-        λ i. maskOf S (g .file i) (sideByte fixed) (addBits n (keys side0 i) (keys side1 i)) (addBits n (labels side0 i) (labels side1 i)) (k .keyMask i)
+        λ i. maskOf S (g .files i) (sideByte fixed) (addBits n (keys side0 i) (keys side1 i)) (addBits n (labels side0 i) (labels side1 i)) (k .keyMask i)
         (k .labelMask i) (zs i)
 
     sums : addBits (S .innerBytes) (mask S a t fixed) (mask S a t (other fixed)) ≡ addBits (S .innerBytes) (mask S b u fixed) (mask S b u (other fixed))

@@ -8,7 +8,7 @@ use Rattle.linear_model.specs.Bits.{Bytes, addBits}
 use Rattle.linear_model.specs.Trits.{subtractTrits}
 use Rattle.linear_model.proofs.Strings.{bit-lt, bytes-add, add-ext, add-is, add-comm, bitwise}
 use Rattle.linear_model.proofs.Vectors.{fit-subtract, bytes-subtract, subtract-twice}
-use Rattle.pair_model.specs.Scheme.{Scheme, Side, side0, side1, other, total}
+use Rattle.pair_model.specs.Scheme.{Files, Scheme, productWith, Side, side0, side1, other, total}
 use Rattle.pair_model.specs.Tape.{Accepted}
 use Rattle.pair_model.specs.Run.{Inputs, update}
 use Rattle.pair_model.specs.Theorem.{Bijection}
@@ -41,10 +41,10 @@ module _ (n : ℕ) where
 
 -- ---- the two sides exchanged: side 1's z and r are made the tape's
 
-module _ (S : Scheme) (file : List ℕ) where
+module _ (S : Scheme) (lent : Files) where
   -- K̃ × x̃ of a tape's parts
   abbrev pub maskProduct : Parts → List ℕ
-  maskProduct p = S .product file (total (S .keyBytes) (p .keyMask)) (total (S .keyBytes) (p .labelMask))
+  maskProduct p = productWith S lent (total (S .keyBytes) (p .keyMask)) (total (S .keyBytes) (p .labelMask))
 
   -- side 1's z and r
   abbrev pub z1 : Parts → List ℕ
@@ -100,7 +100,7 @@ module _ (S : Scheme) (file : List ℕ) where
 
       z : exchange (exchange p) .z0 ≡ p .z0
       z =
-          (λ j. addBits (S .innerBytes) (addBits (S .innerBytes) (z1 p) (S .product file (swap (p .keyMask) j) (swap (p .labelMask) j))) (p .innermask))
+          (λ j. addBits (S .innerBytes) (addBits (S .innerBytes) (z1 p) (productWith S lent (swap (p .keyMask) j) (swap (p .labelMask) j))) (p .innermask))
           ∙ add-back (S .innerBytes) (p .z0) (maskProduct p) (p .innermask) (h .z0)
 
 -- ---- side 1's masks moved from its halves k, x to k′, x′, and the inner mask from w to w′
@@ -154,7 +154,7 @@ module _ (S : Scheme) (k k′ x x′ w w′ : List ℕ) (p : Parts) (h : Whole S
 module _ (S : Scheme) where
   -- the run's inner vector w = K × label
   abbrev pub innerOf : Inputs → List ℕ
-  innerOf a = S .product (a .file) (total (S .keyBytes) (a .key)) (total (S .keyBytes) (a .label))
+  innerOf a = productWith S (a .files) (total (S .keyBytes) (a .key)) (total (S .keyBytes) (a .label))
 
   -- side 1's place moved from the halves that side o has in a to those in b
   moveSide1 : Side → Inputs → Inputs → Parts → Parts
@@ -164,23 +164,23 @@ module _ (S : Scheme) where
   unfoldable pub pairedParts : Side → Inputs → Inputs → Parts → Parts
   unfolding moveSide1 shift
   pairedParts side0 a b p = moveSide1 side1 a b p
-  pairedParts side1 a b p = exchange S (b .file) (moveSide1 side0 a b (exchange S (a .file) p))
+  pairedParts side1 a b p = exchange S (b .files) (moveSide1 side0 a b (exchange S (a .files) p))
 
   whole-paired : (fixed : Side) (a b : Inputs) (p : Parts) → Whole S p → Whole S (pairedParts fixed a b p)
   unfolding pairedParts moveSide1
   whole-paired side0 a b p h = whole-shift S _ _ _ _ _ _ p h
-  whole-paired side1 a b p h = whole-exchange S (b .file) _ (whole-shift S _ _ _ _ _ _ (exchange S (a .file) p) (whole-exchange S (a .file) p h))
+  whole-paired side1 a b p h = whole-exchange S (b .files) _ (whole-shift S _ _ _ _ _ _ (exchange S (a .files) p) (whole-exchange S (a .files) p h))
 
   -- the inputs the other way round lead back
   paired-back : (fixed : Side) (a b : Inputs) (p : Parts) → Whole S p → pairedParts fixed b a (pairedParts fixed a b p) ≡ p
   unfolding pairedParts moveSide1
   paired-back side0 a b p h = shift-back S _ _ _ _ _ _ p h
   paired-back side1 a b p h =
-      let e = whole-exchange S (a .file) p h in
-      ap (λ (q : Parts). exchange S (a .file) (moveSide1 side0 b a q))
-      (exchange-twice S (b .file) (moveSide1 side0 a b (exchange S (a .file) p)) (whole-shift S _ _ _ _ _ _ (exchange S (a .file) p) e))
-      ∙ ap (exchange S (a .file)) (shift-back S _ _ _ _ _ _ (exchange S (a .file) p) e)
-      ∙ exchange-twice S (a .file) p h
+      let e = whole-exchange S (a .files) p h in
+      ap (λ (q : Parts). exchange S (a .files) (moveSide1 side0 b a q))
+      (exchange-twice S (b .files) (moveSide1 side0 a b (exchange S (a .files) p)) (whole-shift S _ _ _ _ _ _ (exchange S (a .files) p) e))
+      ∙ ap (exchange S (a .files)) (shift-back S _ _ _ _ _ _ (exchange S (a .files) p) e)
+      ∙ exchange-twice S (a .files) p h
 
   -- the paired tape
   unfoldable pub pairedTape : Side → Inputs → Inputs → List ℕ → List ℕ
@@ -217,21 +217,21 @@ module _ (S : Scheme) where
 -- ---- what the pairing keeps: the fixed unit's deal, the other's open body, and the run's inner vector under its mask
 
 -- z of unit i
-abbrev pub zOf : Scheme → List ℕ → Parts → Side → List ℕ
-zOf S file p side0 = p .z0
-zOf S file p side1 = z1 S file p
+abbrev pub zOf : Scheme → Files → Parts → Side → List ℕ
+zOf S lent p side0 = p .z0
+zOf S lent p side1 = z1 S lent p
 
 -- r of unit i
-abbrev pub rOf : Scheme → List ℕ → Parts → Side → List ℕ
-rOf S file p side0 = p .r0
-rOf S file p side1 = r1 S file p
+abbrev pub rOf : Scheme → Files → Parts → Side → List ℕ
+rOf S lent p side0 = p .r0
+rOf S lent p side1 = r1 S lent p
 
 -- of the parts p in a run with inputs a, and q in one with inputs b
 pub record Kept (S : Scheme) (fixed : Side) (a b : Inputs) (p q : Parts) : Type 0 where
   pub keyMask : p .keyMask fixed ≡ q .keyMask fixed
   pub labelMask : p .labelMask fixed ≡ q .labelMask fixed
-  pub z : zOf S (a .file) p fixed ≡ zOf S (b .file) q fixed
-  pub r : rOf S (a .file) p fixed ≡ rOf S (b .file) q fixed
+  pub z : zOf S (a .files) p fixed ≡ zOf S (b .files) q fixed
+  pub r : rOf S (a .files) p fixed ≡ rOf S (b .files) q fixed
   pub openKey : let o = other fixed in addBits (S .keyBytes) (a .key o) (p .keyMask o) ≡ addBits (S .keyBytes) (b .key o) (q .keyMask o)
   pub openLabel : let o = other fixed in addBits (S .keyBytes) (a .label o) (p .labelMask o) ≡ addBits (S .keyBytes) (b .label o) (q .labelMask o)
   pub inner : addBits (S .innerBytes) (innerOf S a) (p .innermask) ≡ addBits (S .innerBytes) (innerOf S b) (q .innermask)
@@ -261,10 +261,10 @@ module _ (S : Scheme) (a b : Inputs) (p : Parts) (h : Whole S p) where
       }
     where
       q : Parts
-      q = moveSide1 S side0 a b (exchange S (a .file) p)
+      q = moveSide1 S side0 a b (exchange S (a .files) p)
 
-      back : exchange S (b .file) (exchange S (b .file) q) ≡ q
-      back = exchange-twice S (b .file) q (whole-shift S _ _ _ _ _ _ (exchange S (a .file) p) (whole-exchange S (a .file) p h))
+      back : exchange S (b .files) (exchange S (b .files) q) ≡ q
+      back = exchange-twice S (b .files) q (whole-shift S _ _ _ _ _ _ (exchange S (a .files) p) (whole-exchange S (a .files) p h))
 
 -- the pairing keeps all that
 pub kept : (S : Scheme) (fixed : Side) (a b : Inputs) (tape : List ℕ) → Accepted S tape

@@ -13,7 +13,7 @@ use Rattle.linear_model.specs.Products.{planeBytes, rowDigit}
 use Rattle.linear_model.proofs.Tables.{every-of}
 use Rattle.linear_model.proofs.Linearity.{trit-matrix, bytes-matrix, fit-matrix}
 use Rattle.numbers.specs.Number.{first}
-use Rattle.pair_model.specs.Scheme.{Scheme, Linear, Side, side0, side1, total}
+use Rattle.pair_model.specs.Scheme.{Files, Scheme, rowsWith, Linear, Side, side0, side1, total}
 use Rattle.pair_model.specs.Frame.{shareKind, header, frame, headerBytes, sideOf, sessionOf, codeBytes}
 use Rattle.pair_model.specs.Header.{fields}
 use Rattle.pair_model.specs.Evaluator.{codeOf, code}
@@ -27,30 +27,30 @@ use Rattle.pair_model.proofs.Theorem.Stages.{parametersAt}
 
 -- ---- a code share is fit
 
-module _ (S : Scheme) (file v : List ℕ) where
+module _ (S : Scheme) (lent : Files) (v : List ℕ) where
   -- it has the length of a code
-  pub bytes-code : Bytes (codeBytes S) (codeOf S file v)
+  pub bytes-code : Bytes (codeBytes S) (codeOf S lent v)
   unfolding codeOf
   bytes-code =
       let e : planeBytes (S .digits) + planeBytes (S .digits) ≡ 2 * planeBytes (S .digits) = omega arith in
-      rw e at (bytes-matrix (planeBytes (S .digits)) (S .innerBytes) (S .digits) (S .rows file) v)
+      rw e at (bytes-matrix (planeBytes (S .digits)) (S .innerBytes) (S .digits) (rowsWith S lent) v)
 
   -- no digit has both bits set
-  pub fit-code : T (fitTrits (planeBytes (S .digits)) (S .digits) (codeOf S file v))
+  pub fit-code : T (fitTrits (planeBytes (S .digits)) (S .digits) (codeOf S lent v))
   unfolding codeOf
-  fit-code = fit-matrix (planeBytes (S .digits)) (S .innerBytes) (S .digits) (S .rows file) (S .digits) v (omega arith)
+  fit-code = fit-matrix (planeBytes (S .digits)) (S .innerBytes) (S .digits) (rowsWith S lent) (S .digits) v (omega arith)
 
   -- the spare bits of both planes are zero
-  pub spare-code : T (zeroTrits (planeBytes (S .digits)) (S .digits) (codeOf S file v))
+  pub spare-code : T (zeroTrits (planeBytes (S .digits)) (S .digits) (codeOf S lent v))
   unfolding codeOf zeroTrits
   spare-code =
-      every-of (8 * planeBytes (S .digits) - S .digits) (zeroTrit (planeBytes (S .digits)) (S .digits) (codeOf S file v))
+      every-of (8 * planeBytes (S .digits) - S .digits) (zeroTrit (planeBytes (S .digits)) (S .digits) (codeOf S lent v))
       (λ k l. rw (spare k l) tt)
     where
-      spare : (k : ℕ) → k < 8 * planeBytes (S .digits) - S .digits → trit (planeBytes (S .digits)) (codeOf S file v) (S .digits + k) ≡ 0
+      spare : (k : ℕ) → k < 8 * planeBytes (S .digits) - S .digits → trit (planeBytes (S .digits)) (codeOf S lent v) (S .digits + k) ≡ 0
       spare k l =
-          trit-matrix (planeBytes (S .digits)) (S .innerBytes) (S .digits) (S .rows file) v (S .digits + k) (omega arith)
-          ∙ ap (λ (b : Bool). cond b (rowDigit (S .innerBytes) (S .rows file) v (S .digits + k)) 0) (at-least (S .digits + k) (S .digits) (omega arith))
+          trit-matrix (planeBytes (S .digits)) (S .innerBytes) (S .digits) (rowsWith S lent) v (S .digits + k) (omega arith)
+          ∙ ap (λ (b : Bool). cond b (rowDigit (S .innerBytes) (rowsWith S lent) v (S .digits + k)) 0) (at-least (S .digits + k) (S .digits) (omega arith))
 
 -- ---- join
 
@@ -61,15 +61,15 @@ module _ (S : Scheme) (a : Inputs) (tape : List ℕ) where
 
   bytes-share : (i : Side) → Bytes (codeBytes S) (share S a tape i)
   unfolding share shareOf
-  bytes-share i = bytes-code S (a .file) _
+  bytes-share i = bytes-code S (a .files) _
 
   fit-share : (i : Side) → fitTrits (planeBytes (S .digits)) (S .digits) (share S a tape i) ≡ true
   unfolding share shareOf
-  fit-share i = is-true (fitTrits (planeBytes (S .digits)) (S .digits) (share S a tape i)) (fit-code S (a .file) _)
+  fit-share i = is-true (fitTrits (planeBytes (S .digits)) (S .digits) (share S a tape i)) (fit-code S (a .files) _)
 
   spare-share : (i : Side) → zeroTrits (planeBytes (S .digits)) (S .digits) (share S a tape i) ≡ true
   unfolding share shareOf
-  spare-share i = is-true (zeroTrits (planeBytes (S .digits)) (S .digits) (share S a tape i)) (spare-code S (a .file) _)
+  spare-share i = is-true (zeroTrits (planeBytes (S .digits)) (S .digits) (share S a tape i)) (spare-code S (a .files) _)
 
   -- it is read
   reads : (i : Side) → let f = shareFrameOf i in headerRead S shareKind shareKind f ≡ fields shareKind (sideOf f) (sessionOf f) (length f - headerBytes)
@@ -93,6 +93,6 @@ module _ (S : Scheme) (a : Inputs) (tape : List ℕ) where
 
   -- and gives the code
   pub joins-to-code : Linear S
-      → joined S (shareFrameOf side0) (shareFrameOf side1) ≡ code S (total (S .keyBytes) (a .key)) (total (S .keyBytes) (a .label)) (a .file)
+      → joined S (shareFrameOf side0) (shareFrameOf side1) ≡ code S (total (S .keyBytes) (a .key)) (total (S .keyBytes) (a .label)) (a .files)
   unfolding joined frame header
   joins-to-code L = shares-add S L a tape

@@ -1,34 +1,36 @@
 -- The two units of a run by how many frames each has accepted.
 use Prim.Native.Nat.{ℕ, zero, suc, _-_, _*_, _≤_, _<_}
 use mathlib.Core.Path.{_≡_, refl, ap, _∙_, subst}
-use mathlib.Core.List.{List, [], _∷_, _++_}
-use mathlib.Core.Bool.{Bool, true, false, cond, not, _&&_}
+use mathlib.Core.List.{List, [], _∷_}
+use mathlib.Core.Bool.{false, cond, not}
 use native.Mathlib.Omega.{arith}
 use native.Mathlib.Nat.{le-refl}
 use lib.Dec.{T, eqb, lit≤}
 use lib.ListN.{length, getD}
 use Rattle.linear_model.specs.Bits.{Bytes, zeros, addBits}
-use Rattle.linear_model.specs.Trits.{fitTrits}
+use Rattle.linear_model.specs.Trits.{fitTrits, innerShare}
+use Rattle.linear_model.specs.Products.{planeBytes, matrixProduct}
 use Rattle.linear_model.proofs.Strings.{bytes-add}
 use Rattle.linear_model.proofs.Vectors.{bytes-subtract, fit-subtract}
 use Rattle.numbers.specs.Number.{_when_, first, onlyIf}
-use Rattle.pair_model.specs.Scheme.{Scheme, Linear, Side, side0, side1, sideByte, other, total, field, concat, layoutBytes, fileNumber}
+use Rattle.pair_model.specs.Scheme.{Files, faultsIn, readingNumber, Scheme, productWith, Linear, Side, side0, side1, sideByte, other, total, field, concat, layoutBytes}
 use Rattle.pair_model.specs.Tape.{Accepted, K̃, x̃, z, r, deal, dealLayout}
-use Rattle.pair_model.specs.Frame.{Parameters, parameters, dealKind, openKind, maskKind, shareKind, frame, header, openLayout}
-use Rattle.pair_model.specs.Unit.{State, Secrets, state, begun, done, addIfSide0, maskOf, shareOf, readsFile, leastOutput, Stepped, stepNumber, takeDeal, takeOpen, takeMask, advance, step}
+use Rattle.pair_model.specs.Frame.{Parameters, parametersOf, dealKind, openKind, maskKind, shareKind, frame, header, bodyBytes, openLayout}
+use Rattle.pair_model.specs.Unit.{State, Secrets, state, begun, done, addIfSide0, maskOf, shareOf, expectedSide, stepReading, leastOutput, Stepped, stepNumber, takeDeal, takeOpen, takeMask, advance, step}
+use Rattle.pair_model.specs.Evaluator.{codeOf}
 use Rattle.pair_model.specs.Dealer.{dealFrame}
 use Rattle.pair_model.specs.Run.{Inputs, WellFormed}
-use Rattle.numbers.proofs.Numbers.{is-true}
+use Rattle.numbers.proofs.Numbers.{is-true, first-end}
 use Rattle.pair_model.proofs.Theorem.Layouts.{Laid, field-concat, bytes-concat}
 use Rattle.pair_model.proofs.Theorem.TapeParts.{whole-parts}
 use Rattle.pair_model.proofs.Theorem.Pairing.{two-planes}
 use Rattle.pair_model.proofs.Theorem.MaskLaws.{openKey, openLabel, mask, share, own-first, bytes-mask}
-use Rattle.pair_model.proofs.Theorem.StepLaws.{accepts-expected, read-length, read-faults, step-accepted}
+use Rattle.pair_model.proofs.Theorem.StepLaws.{accepts-expected, fit-length, fit-faults, same-reading, step-accepted}
 
 module _ (S : Scheme) (a : Inputs) (tape : List ℕ) where
   -- what unit i is begun with besides its halves
   abbrev pub parametersAt : Side → Parameters
-  parametersAt i = parameters (sideByte i) (a .session)
+  parametersAt i = parametersOf i (a .shared)
 
   -- the body of side i's open frame
   abbrev pub openBody : Side → List ℕ
@@ -36,7 +38,7 @@ module _ (S : Scheme) (a : Inputs) (tape : List ℕ) where
 
   -- what a unit receives, in turn
   unfoldable pub incoming : Side → ℕ → List ℕ
-  incoming i zero = dealFrame S (a .session) (a .file) tape i
+  incoming i zero = dealFrame S (a .shared) (a .files) tape i
   incoming i (suc zero) = frame openKind (parametersAt (other i)) (openBody (other i))
   incoming i (suc (suc n)) = frame maskKind (parametersAt (other i)) (mask S a tape (other i))
 
@@ -56,7 +58,7 @@ module _ (S : Scheme) (a : Inputs) (tape : List ℕ) where
         label = a .label i;
         keyMask = K̃ S tape i;
         labelMask = x̃ S tape i;
-        z = z S (a .file) tape i;
+        z = z S (a .files) tape i;
         r = r S tape i;
         ownMask = m;
       }
@@ -70,8 +72,8 @@ module _ (S : Scheme) (a : Inputs) (tape : List ℕ) where
 
 -- ---- a deal is made of its fields
 
-module _ (S : Scheme) (file tape : List ℕ) (h : Accepted S tape) where
-  bytes-z : (i : Side) → Bytes (S .innerBytes) (z S file tape i)
+module _ (S : Scheme) (lent : Files) (tape : List ℕ) (h : Accepted S tape) where
+  bytes-z : (i : Side) → Bytes (S .innerBytes) (z S lent tape i)
   unfolding z
   bytes-z side0 = whole-parts S tape h .z0
   bytes-z side1 = bytes-add (S .innerBytes) _ _
@@ -88,24 +90,24 @@ module _ (S : Scheme) (file tape : List ℕ) (h : Accepted S tape) where
 
   module _ (i : Side) where
     abbrev dealFields : List (List ℕ)
-    dealFields = K̃ S tape i ∷ x̃ S tape i ∷ z S file tape i ∷ r S tape i ∷ []
+    dealFields = K̃ S tape i ∷ x̃ S tape i ∷ z S lent tape i ∷ r S tape i ∷ []
 
     deal-laid : Laid (dealLayout S) dealFields
     deal-laid = (whole-parts S tape h .keyMask i, (whole-parts S tape h .labelMask i, (bytes-z i, (bytes-r i, tt))))
 
     -- a deal has the length of its layout
-    pub bytes-deal : Bytes (layoutBytes (dealLayout S)) (deal S file tape i)
+    pub bytes-deal : Bytes (layoutBytes (dealLayout S)) (deal S lent tape i)
     unfolding deal
     bytes-deal = bytes-concat (dealLayout S) dealFields deal-laid
 
     -- and its fields are what it was made of
-    pub deal-field : (k : ℕ) → field (dealLayout S) k (deal S file tape i) ≡ getD dealFields k []
+    pub deal-field : (k : ℕ) → field (dealLayout S) k (deal S lent tape i) ≡ getD dealFields k []
     unfolding deal
     deal-field = field-concat (dealLayout S) dealFields deal-laid
 
 -- ---- a frame that comes as it was sent is accepted, and takes the unit one stage on
 
-module _ (S : Scheme) (L : Linear S) (a : Inputs) (tape : List ℕ) (well : WellFormed S a) (h : Accepted S tape) (i : Side) (file : List ℕ)
+module _ (S : Scheme) (L : Linear S) (a : Inputs) (tape : List ℕ) (well : WellFormed S a) (h : Accepted S tape) (i : Side) (lent : Files)
     (outputLength : ℕ) (long : leastOutput S ≤ outputLength) where
   -- what the step that takes frame n gives
   abbrev pub accepted : ℕ → Stepped
@@ -121,58 +123,53 @@ module _ (S : Scheme) (L : Linear S) (a : Inputs) (tape : List ℕ) (well : Well
   bytes-open : (o : Side) → Bytes (layoutBytes (openLayout S)) (openBody S a tape o)
   bytes-open o = bytes-concat (openLayout S) (openKey S a tape o ∷ openLabel S a tape o ∷ []) (open-laid o)
 
-  -- a deal does not have the file read
-  unread-deal : (b : Bool) → cond b false false ≡ false
-  unread-deal true = refl
-  unread-deal false = refl
-
   -- a deal gets no number
-  pub accepts-deal : stepNumber S (parametersAt S a tape i) dealKind (incoming S a tape i 0) file outputLength ≡ 0
-  unfolding incoming dealFrame readsFile frame header first onlyIf
+  pub accepts-deal : stepNumber S (parametersAt S a tape i) dealKind (incoming S a tape i 0) lent outputLength ≡ 0
+  unfolding incoming dealFrame frame header first onlyIf
   accepts-deal =
-      accepts-expected S (parametersAt S a tape i) dealKind (deal S (a .file) tape i) file outputLength (well .session) long (lit≤ tt) (lit≤ tt)
-      (bytes-deal S (a .file) tape h i .size)
-      (λ j. unread-deal (S .productReads) j && not (eqb (length file) (S .fileBytes)))
-      ((λ j. first (onlyIf (unread-deal (S .productReads) j) (S .faults file)
-      ++ onlyIf true (10 when not (fitTrits (S .innerBytes) (8 * S .innerBytes) (deal-field S (a .file) tape h i 3 j)) ∷ [])))
-      ∙ (λ j. first (10 when not (is-true (fitTrits (S .innerBytes) (8 * S .innerBytes) (r S tape i)) (fit-r S (a .file) tape h i) j) ∷ [])))
+      accepts-expected S (parametersAt S a tape i) dealKind (deal S (a .files) tape i) lent outputLength (well .shared) long (lit≤ tt) (lit≤ tt)
+      (bytes-deal S (a .files) tape h i .size) refl
+      ((λ j. first (10 when not (fitTrits (S .innerBytes) (8 * S .innerBytes) (deal-field S (a .files) tape h i 3 j)) ∷ []))
+      ∙ (λ j. first (10 when not (is-true (fitTrits (S .innerBytes) (8 * S .innerBytes) (r S tape i)) (fit-r S (a .files) tape h i) j) ∷ [])))
 
-  -- a file that the unit reads is the run's, so it is fit
-  abbrev pub RightFile : ℕ → Type 0
-  RightFile n = T (readsFile S (incoming S a tape i n)) → file ≡ a .file
-
-  fit-file : (n : ℕ) → RightFile n → T (readsFile S (incoming S a tape i n)) → fileNumber S file ≡ 0
-  fit-file n e t = ap (fileNumber S) (e t) ∙ well .file
+  -- what the unit reads of its files at frame n is the run's
+  abbrev pub SameRead : ℕ → Type 0
+  SameRead n = stepReading S (suc n) .content lent ≡ stepReading S (suc n) .content (a .files)
 
   -- an open or mask frame must name the other side
   other-side : (i : Side) → cond (eqb openKind dealKind) (sideByte i) (1 - sideByte i) ≡ sideByte (other i)
   other-side side0 = refl
   other-side side1 = refl
 
-  -- nor does the other's open frame
-  pub accepts-open : RightFile 1 → stepNumber S (parametersAt S a tape i) openKind (incoming S a tape i 1) file outputLength ≡ 0
-  unfolding incoming readsFile frame header onlyIf
+  -- the other's frame gets none either, where what is read is fit
+  accepts-other : (kind : ℕ) (body : List ℕ) → openKind ≤ kind → kind ≤ maskKind → expectedSide kind (sideByte i) ≡ sideByte (other i)
+      → length body ≡ bodyBytes S kind → readingNumber (stepReading S kind) lent ≡ 0 → eqb kind dealKind ≡ false
+      → stepNumber S (parametersAt S a tape i) kind (frame kind (parametersAt S a tape (other i)) body) lent outputLength ≡ 0
+  unfolding frame header onlyIf
+  accepts-other kind body low high side size fit other-kind =
+      subst (λ (s : ℕ). stepNumber S (parametersAt S a tape i) kind (frame kind (record { side = s; shared = a .shared }) body) lent outputLength ≡ 0) side
+      (accepts-expected S (parametersAt S a tape i) kind body lent outputLength (well .shared) long (omega arith) high size
+      (fit-length (stepReading S kind) lent fit)
+      (rw other-kind (first-end (faultsIn (stepReading S kind) lent) ∙ fit-faults (stepReading S kind) lent fit)))
+
+  -- its open frame
+  pub accepts-open : SameRead 1 → stepNumber S (parametersAt S a tape i) openKind (incoming S a tape i 1) lent outputLength ≡ 0
+  unfolding incoming
   accepts-open e =
-      subst (λ (s : ℕ). stepNumber S (parametersAt S a tape i) openKind (frame openKind (parameters s (a .session)) (openBody S a tape (other i))) file outputLength ≡ 0)
-      (other-side i)
-      (accepts-expected S (parametersAt S a tape i) openKind (openBody S a tape (other i)) file outputLength (well .session) long (lit≤ tt) (lit≤ tt)
-      (bytes-open (other i) .size) (read-length S file (readsFile S (incoming S a tape i 1)) (fit-file 1 e))
-      (read-faults S file (readsFile S (incoming S a tape i 1)) (fit-file 1 e)))
+      accepts-other openKind (openBody S a tape (other i)) (lit≤ tt) (lit≤ tt) (other-side i) (bytes-open (other i) .size)
+      (same-reading (S .productReading) lent (a .files) e (well .product)) refl
 
-  -- nor does its mask frame
-  pub accepts-mask : RightFile 2 → stepNumber S (parametersAt S a tape i) maskKind (incoming S a tape i 2) file outputLength ≡ 0
-  unfolding incoming readsFile frame header onlyIf
+  -- and its mask frame
+  pub accepts-mask : SameRead 2 → stepNumber S (parametersAt S a tape i) maskKind (incoming S a tape i 2) lent outputLength ≡ 0
+  unfolding incoming
   accepts-mask e =
-      subst (λ (s : ℕ). stepNumber S (parametersAt S a tape i) maskKind (frame maskKind (parameters s (a .session)) (mask S a tape (other i))) file outputLength ≡ 0)
-      (other-side i)
-      (accepts-expected S (parametersAt S a tape i) maskKind (mask S a tape (other i)) file outputLength (well .session) long (lit≤ tt) (lit≤ tt)
-      (bytes-mask S a tape (other i) .size) (read-length S file (readsFile S (incoming S a tape i 2)) (fit-file 2 e))
-      (read-faults S file (readsFile S (incoming S a tape i 2)) (fit-file 2 e)))
+      accepts-other maskKind (mask S a tape (other i)) (lit≤ tt) (lit≤ tt) (other-side i) (bytes-mask S a tape (other i) .size)
+      (same-reading (S .rowsReading) lent (a .files) e (well .rows)) refl
 
-  at-deal : step S (unitAt S a tape i 0) (incoming S a tape i 0) file outputLength ≡ accepted 0
+  at-deal : step S (unitAt S a tape i 0) (incoming S a tape i 0) lent outputLength ≡ accepted 0
   unfolding unitAt incoming outgoing dealFrame frame header advance takeDeal
   at-deal =
-      step-accepted S (unitAt S a tape i 0) (incoming S a tape i 0) file outputLength accepts-deal
+      step-accepted S (unitAt S a tape i 0) (incoming S a tape i 0) lent outputLength accepts-deal
       ∙ (λ j.
       record {
         result = 0;
@@ -191,22 +188,17 @@ module _ (S : Scheme) (L : Linear S) (a : Inputs) (tape : List ℕ) (well : Well
             });
       })
     where
-      d : (k : ℕ) → field (dealLayout S) k (deal S (a .file) tape i) ≡ getD (K̃ S tape i ∷ x̃ S tape i ∷ z S (a .file) tape i ∷ r S tape i ∷ []) k []
-      d = deal-field S (a .file) tape h i
+      d : (k : ℕ) → field (dealLayout S) k (deal S (a .files) tape i) ≡ getD (K̃ S tape i ∷ x̃ S tape i ∷ z S (a .files) tape i ∷ r S tape i ∷ []) k []
+      d = deal-field S (a .files) tape h i
 
-  -- a file that the product does not read makes no difference
-  same-product : RightFile 1 → (key label : List ℕ) → S .product file key label ≡ S .product (a .file) key label
-  unfolding incoming readsFile frame header onlyIf
-  same-product e key label = pick (S .productReads) refl e
-    where
-      pick : (b : Bool) → S .productReads ≡ b → (T (cond b true false) → file ≡ a .file) → S .product file key label ≡ S .product (a .file) key label
-      pick true q e = ap (λ (f : List ℕ). S .product f key label) (e tt)
-      pick false q e = L .unread q file (a .file) key label
+  -- it is the run's product
+  same-product : SameRead 1 → (key label : List ℕ) → productWith S lent key label ≡ productWith S (a .files) key label
+  same-product e key label = ap (λ (c : List ℕ). S .product c key label) e
 
-  at-open : RightFile 1 → step S (unitAt S a tape i 1) (incoming S a tape i 1) file outputLength ≡ accepted 1
+  at-open : SameRead 1 → step S (unitAt S a tape i 1) (incoming S a tape i 1) lent outputLength ≡ accepted 1
   unfolding unitAt incoming outgoing frame header advance takeOpen mask maskOf
   at-open e =
-      step-accepted S (unitAt S a tape i 1) (incoming S a tape i 1) file outputLength (accepts-open e)
+      step-accepted S (unitAt S a tape i 1) (incoming S a tape i 1) lent outputLength (accepts-open e)
       ∙ (λ j. of (mask-is j))
     where
       n : ℕ
@@ -224,36 +216,32 @@ module _ (S : Scheme) (L : Linear S) (a : Inputs) (tape : List ℕ) (well : Well
       label : addBits n (openLabel S a tape i) (field (openLayout S) 1 body) ≡ total n (openLabel S a tape)
       label = ap (addBits n (openLabel S a tape i)) (open-field (other i) 1) ∙ own-first n (openLabel S a tape) i
 
-      mask-is : maskOf S file (sideByte i) (addBits n (openKey S a tape i) (field (openLayout S) 0 body))
-          (addBits n (openLabel S a tape i) (field (openLayout S) 1 body)) (K̃ S tape i) (x̃ S tape i) (z S (a .file) tape i)
+      mask-is : maskOf S lent (sideByte i) (addBits n (openKey S a tape i) (field (openLayout S) 0 body))
+          (addBits n (openLabel S a tape i) (field (openLayout S) 1 body)) (K̃ S tape i) (x̃ S tape i) (z S (a .files) tape i)
           ≡ mask S a tape i
       mask-is =
-          (λ j. maskOf S file (sideByte i) (key j) (label j) (K̃ S tape i) (x̃ S tape i) (z S (a .file) tape i))
+          (λ j. maskOf S lent (sideByte i) (key j) (label j) (K̃ S tape i) (x̃ S tape i) (z S (a .files) tape i))
           ∙ (λ j. addIfSide0 S (sideByte i)
           (addBits (S .innerBytes) (addBits (S .innerBytes) (same-product e (total n (openKey S a tape)) (x̃ S tape i) j)
-          (same-product e (K̃ S tape i) (total n (openLabel S a tape)) j)) (z S (a .file) tape i))
+          (same-product e (K̃ S tape i) (total n (openLabel S a tape)) j)) (z S (a .files) tape i))
           (same-product e (total n (openKey S a tape)) (total n (openLabel S a tape)) j))
 
-  at-mask : RightFile 2 → step S (unitAt S a tape i 2) (incoming S a tape i 2) file outputLength ≡ accepted 2
-  unfolding unitAt incoming outgoing frame header advance takeMask share readsFile
+  at-mask : SameRead 2 → step S (unitAt S a tape i 2) (incoming S a tape i 2) lent outputLength ≡ accepted 2
+  unfolding unitAt incoming outgoing frame header advance takeMask share shareOf codeOf
   at-mask e =
-      step-accepted S (unitAt S a tape i 2) (incoming S a tape i 2) file outputLength (accepts-mask e)
+      step-accepted S (unitAt S a tape i 2) (incoming S a tape i 2) lent outputLength (accepts-mask e)
       ∙ (λ j.
       record {
         result = 0;
-        written = frame shareKind (parametersAt S a tape i) (shareOf S (right j) (sideByte i) (own-first (S .innerBytes) (mask S a tape) i j) (r S tape i));
+        written =
+            frame shareKind (parametersAt S a tape i)
+            (matrixProduct (planeBytes (S .digits)) (S .innerBytes) (S .digits) (S .rows (e j))
+            (innerShare (S .innerBytes) (sideByte i) (own-first (S .innerBytes) (mask S a tape) i j) (r S tape i)));
         next = done S (parametersAt S a tape i);
       })
-    where
-      always : (b : Bool) → T (cond b true true)
-      always true = tt
-      always false = tt
 
-      right : file ≡ a .file
-      right = e (always (S .productReads))
-
-  -- frame n as it was sent, with the run's file if it is read, is accepted
-  pub accepts : (n : ℕ) → n < 3 → RightFile n → step S (unitAt S a tape i n) (incoming S a tape i n) file outputLength ≡ accepted n
+  -- frame n as it was sent, with what is read being the run's, is accepted
+  pub accepts : (n : ℕ) → n < 3 → SameRead n → step S (unitAt S a tape i n) (incoming S a tape i n) lent outputLength ≡ accepted n
   accepts zero l e = at-deal
   accepts (suc zero) l e = at-open e
   accepts (suc (suc zero)) l e = at-mask e

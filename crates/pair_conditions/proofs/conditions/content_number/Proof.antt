@@ -1,9 +1,13 @@
 -- `pair_conditions::conditions::content_number` meets its contract: by what is read, and then by the kind.
 use mathlib.Core.Path.{sym, ap, _∙_}
+use mathlib.Core.Bool.{false≢true}
 use native.Mathlib.Omega.{arith}
 use borrow.Author.Needs.{needs}
+use borrow.Author.Tests.{eq-eqb}
+use lib.Dec.{eqb→eq}
+use Rattle.numbers.proofs.Numbers.{holds}
 use Rattle.pair_model.specs.Base.{base}
-use Rattle.pair_model.specs.Frame.{frameBytes}
+use Rattle.pair_model.specs.Frame.{maskKind, frameBytes}
 use Rattle.pair_model.proofs.Internal.Contents.{content-read, content-other, content-deal}
 use Rattle.pair_conditions.proofs.conditions.content_number.Statement.{statement}
 use Rattle.pair_conditions.proofs.conditions.content_number.Tie as tie
@@ -11,13 +15,13 @@ use Rattle.pair_conditions.proofs.conditions.content_number.Tie as tie
 returns : tie.Need-returns
 returns c =
     let s = c .before .before .before .before .before in
-    let r = sym (c .before .before .reads-file .ensures) ∙ c .before .if1 .taken in
+    let r = eqb→eq _ maskKind (holds _ (sym (c .before .before .reads-file .ensures) ∙ c .before .if1 .taken)) in
     c .matrix-check .ensures ∙ content-read (s .args .f .now) (s .args .file .now) r (s .pre .1 r)
 
 returns-2 : tie.Need-returns-2
 returns-2 c =
     let a = c .before .before .before .before .before .before .args in
-    content-other (a .f .now) (a .file .now) (sym (c .before .before .before .reads-file .ensures) ∙ c .before .before .if1 .left) (c .if2 .taken)
+    content-other (a .f .now) (a .file .now) (λ e. false≢true (sym (sym (c .before .before .before .reads-file .ensures) ∙ c .before .before .if1 .left) ∙ eq-eqb _ _ e)) (c .if2 .taken)
 
 r-of-deal-requires : tie.Need-r-of-deal-requires
 r-of-deal-requires c κs = c .before .before .before .before .before .before .pre .0 ∙ ap (frameBytes base) (c .if2 .left)

@@ -3,16 +3,13 @@ use mathlib.Core.Path.{refl}
 use native.Mathlib.Omega.{arith}
 use borrow.Author.Needs.{needs}
 use lib.ListN.{List·getD-eq-default}
-use Rattle.pair_model.specs.Unit.{readsFile}
 use Rattle.pair_conditions.proofs.conditions.reads_file.Statement.{statement}
 use Rattle.pair_conditions.proofs.conditions.reads_file.Tie as tie
 
 returns : tie.Need-returns
-unfolding readsFile
 returns c = rw (List·getD-eq-default (c .before .args .f .now) 0 {n = 0} (omega arith))
 
 returns-2 : tie.Need-returns-2
-unfolding readsFile
 returns-2 c = refl
 
 pub reads-file-spec : {M : Type 1} → statement M

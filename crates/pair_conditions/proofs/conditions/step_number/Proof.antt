@@ -1,9 +1,10 @@
 -- `pair_conditions::conditions::step_number` meets its contract: the first part that has a number decides.
 use mathlib.Core.Path.{sym, _∙_}
 use borrow.Author.Needs.{needs}
+use Rattle.pair_model.specs.Scheme.{files}
 use Rattle.pair_model.specs.Base.{base}
 use Rattle.pair_model.specs.Frame.{parameters}
-use Rattle.pair_model.proofs.Internal.StepNumbers.{number-of-lengths, number-of-headers, number-of-content, file-long, frame-long}
+use Rattle.pair_model.proofs.Internal.StepNumbers.{number-of-lengths, number-of-headers, number-of-content, rows-long, frame-long}
 use Rattle.pair_conditions.proofs.conditions.step_number.Statement.{statement}
 use Rattle.pair_conditions.proofs.conditions.step_number.Tie as tie
 
@@ -22,8 +23,8 @@ content-number-requires : tie.Need-content-number-requires
 content-number-requires c κs =
     let l = c .before .before in
     let a = l .before .before .before .before .args in (
-      frame-long base (parameters (a .side) (a .session)) (a .stage) (a .f .now) (a .file .now) (a .room) (sym (c .before .frame-number .ensures) ∙ c .if2 .left),
-      file-long base (parameters (a .side) (a .session)) (a .stage) (a .f .now) (a .file .now) (a .room) (sym (l .before .length-number .ensures) ∙ l .if1 .left),
+      frame-long base (parameters (a .side) (a .session)) (a .stage) (a .f .now) (files (a .file .now)) (a .room) (sym (c .before .frame-number .ensures) ∙ c .if2 .left),
+      rows-long base (parameters (a .side) (a .session)) (a .stage) (a .f .now) (files (a .file .now)) (a .room) (sym (l .before .length-number .ensures) ∙ l .if1 .left),
     )
 
 returns-3 : tie.Need-returns-3

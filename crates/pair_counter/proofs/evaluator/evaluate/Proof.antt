@@ -11,6 +11,7 @@ use Rattle.matrix_model.specs.File.{rows}
 use Rattle.matrix_model.proofs.Product.{product-of-file}
 use Rattle.matrix_model.proofs.RoundTrip.{fit-length}
 use Rattle.numbers.proofs.Outputs.{output-refused, output-done}
+use Rattle.pair_model.specs.Scheme.{files}
 use Rattle.pair_model.specs.Base.{base}
 use Rattle.pair_model.specs.Evaluator.{codeOf, code}
 use Rattle.linear_model.proofs.Copies.{copied-first}
@@ -46,14 +47,14 @@ returns-5 c =
     let a = t .before .before .before .before .before .before .before .args in
     let z = sym (m .matrix-check .ensures) ∙ i .if4 .left in
     let h : 22 ≤ length (a .out .now) = t .if3 .left in
-    let y : k .file-product .result ≡ code base (a .key .now) (a .label .now) (a .file .now) =
+    let y : k .file-product .result ≡ code base (a .key .now) (a .label .now) (files (a .file .now)) =
     k .file-product .ensures ∙ product-of-file (a .file .now) _ (fit-length (a .file .now) z)
     ∙ ap (matrixProduct 11 32 81 (rows (a .file .now))) (k .before .inner-vector .ensures) in
     let l : length (k .file-product .result) ≡ 22 = omega arith in (
       sym z ∙ file-decides _ _ _ _ (t .before .before .if1 .left) (t .before .if2 .left) h,
       copied-first (k .file-product .result) _ (omega arith) (c .before .before .put .ensures) .is
           ∙ ap (λ (s : List ℕ). s ++ drop (length s) (a .out .now)) y
-          ∙ output-done 0 (code base (a .key .now) (a .label .now) (a .file .now)) (a .out .now) refl,
+          ∙ output-done 0 (code base (a .key .now) (a .label .now) (files (a .file .now))) (a .out .now) refl,
     )
 
 pub evaluate-spec : {M : Type 1} → statement M

@@ -12,20 +12,20 @@ use Rattle.pair_dealer.proofs.dealer.deal.Tie as tie
 
 returns : tie.Need-returns
 unfolding output
-returns c = (c .before .deal-number .ensures, (simp (ne-eqb _ _ (c .if1 .taken)), (deal-accepted base, base-demand3 .privacy)))
+returns c = (c .before .deal-number .ensures, (simp (ne-eqb _ _ (c .if1 .taken)), (λ lent. deal-accepted base lent tt, base-demand3 .privacy)))
 
 write-deal-requires : tie.Need-write-deal-requires
 write-deal-requires c κs =
     let n = c .before .before in
     let a = n .before .before .before .args in
-    let f = deal-fits (a .tape .now) _ (sym (n .deal-number .ensures) ∙ c .before .if1 .left) in
+    let f = deal-fits _ (a .tape .now) _ (sym (n .deal-number .ensures) ∙ c .before .if1 .left) in
     (f .tape-length, f .room)
 
 returns-2 : tie.Need-returns-2
 returns-2 c =
     let w = c .before .before in
     let i = w .before .before in
-    (sym (i .if1 .left) ∙ i .before .deal-number .ensures, (w .write-deal .ensures, (deal-accepted base, base-demand3 .privacy)))
+    (sym (i .if1 .left) ∙ i .before .deal-number .ensures, (w .write-deal .ensures, (λ lent. deal-accepted base lent tt, base-demand3 .privacy)))
 
 pub deal-spec : {M : Type 1} → statement M
 deal-spec =

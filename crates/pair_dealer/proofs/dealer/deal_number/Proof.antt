@@ -2,7 +2,7 @@
 use mathlib.Core.Path.{sym}
 use borrow.Author.Needs.{needs}
 use borrow.Author.Tests.{lt-ltb, le-ltb, eq-eqb, ne-eqb}
-use Rattle.numbers.specs.Number.{first}
+use Rattle.numbers.specs.Number.{first, merge}
 use Rattle.pair_model.specs.Dealer.{dealConditions}
 use Rattle.pair_model.proofs.Internal.Deals.{fit-r0}
 use Rattle.pair_dealer.proofs.dealer.deal_number.Statement.{statement}
@@ -17,7 +17,7 @@ unfolding first dealConditions
 returns-2 c = simp (eq-eqb _ _ (c .before .if1 .left), lt-ltb _ _ (c .if2 .taken))
 
 returns-3 : tie.Need-returns-3
-unfolding first dealConditions
+unfolding first merge dealConditions
 returns-3 c =
     let r = c .before .before .before in
     let l = r .before .if1 .left in
@@ -25,7 +25,7 @@ returns-3 c =
     simp (eq-eqb _ _ l, le-ltb _ _ (r .if2 .left), sym (fit-r0 t l), sym (c .before .trits-fit .ensures), c .if3 .taken)
 
 returns-4 : tie.Need-returns-4
-unfolding first dealConditions
+unfolding first merge dealConditions
 returns-4 c =
     let r = c .before .before .before in
     let l = r .before .if1 .left in

@@ -5,6 +5,7 @@ use Prim.Native.Nat.{ℕ}
 use borrow.Author.Needs.{needs}
 use lib.ListN.{length}
 use Rattle.numbers.specs.Number.{atFront}
+use Rattle.pair_model.specs.Scheme.{Files, files}
 use Rattle.pair_model.specs.Base.{base}
 use Rattle.pair_model.specs.Frame.{parameters, dealKind, kindOf, sideOf, sessionOf, frameBytes, bodyOf}
 use Rattle.pair_model.specs.Unit.{State, Stepped, takeDeal, advance, stepNumber}
@@ -23,16 +24,16 @@ unfolding decodeState
 waits s e = e
 
 -- the number by the slice's bytes is that of its state
-of-state : (s f file : List ℕ) (n : ℕ) → stepNumber base (parameters (sideOf s) (sessionOf s)) (kindOf s) f file n ≡ 0
-    → stepNumber base (decodeState base s .parameters) (decodeState base s .stage) f file n ≡ 0
+of-state : (s f : List ℕ) (lent : Files) (n : ℕ) → stepNumber base (parameters (sideOf s) (sessionOf s)) (kindOf s) f lent n ≡ 0
+    → stepNumber base (decodeState base s .parameters) (decodeState base s .stage) f lent n ≡ 0
 unfolding decodeState
-of-state s f file n e = e
+of-state s f lent n e = e
 
 take-deal-requires : tie.Need-take-deal-requires
 take-deal-requires c κs =
     let s = c .before .before .before .before .before .before .before .before .before in
     let a = s .args in
-    let h = fits base (parameters (sideOf (a .state .now)) (sessionOf (a .state .now))) (kindOf (a .state .now)) (a .f .now) (a .file .now) (length (a .out .now)) (s .pre .1) in
+    let h = fits base (parameters (sideOf (a .state .now)) (sessionOf (a .state .now))) (kindOf (a .state .now)) (a .f .now) (files (a .file .now)) (length (a .out .now)) (s .pre .1) in
     (h .frame-length ∙ ap (frameBytes base) (c .before .before .before .if1 .taken), h .room)
 
 returns : tie.Need-returns
@@ -42,7 +43,7 @@ returns c =
     let b = bodyOf (a .f .now) in
     let v = c .before .before .before .before .before .before .take-deal .ensures in
     let d : stateOf (c .before .before .before .before .before .before .before .before .decode .result) ≡ decodeState base s = ap stateOf (c .before .before .before .before .before .before .before .before .decode .ensures) in
-    let e = sym (advance-deal (decodeState base s) b (a .file .now) (waits s (c .before .before .before .before .before .before .before .before .before .before .if1 .taken))) in (
+    let e = sym (advance-deal (decodeState base s) b (files (a .file .now)) (waits s (c .before .before .before .before .before .before .before .before .before .before .if1 .taken))) in (
       deal-length (decodeState base s) b ∙ ap (λ (t : Stepped). length (t .written)) e,
       (
         c .before .before .encode .ensures ∙ ap (λ (u : UnitState). encodeState (stateOf u)) (v .0)
@@ -56,8 +57,8 @@ advance-requires c κs =
     let s = c .before .before .before .before .before .before .before .before .before in
     let a = s .args in
     let m = length (a .out .now) in
-    ap (λ (u : UnitState). stepNumber base (stateOf u .parameters) (stateOf u .stage) (a .f .now) (a .file .now) m) (c .before .decode2 .ensures)
-    ∙ of-state (a .state .now) (a .f .now) (a .file .now) m (s .pre .1)
+    ap (λ (u : UnitState). stepNumber base (stateOf u .parameters) (stateOf u .stage) (a .f .now) (files (a .file .now)) m) (c .before .decode2 .ensures)
+    ∙ of-state (a .state .now) (a .f .now) (files (a .file .now)) m (s .pre .1)
 
 returns-2 : tie.Need-returns-2
 returns-2 c =
@@ -66,11 +67,11 @@ returns-2 c =
     let b = bodyOf (a .f .now) in
     let v = c .before .before .before .before .before .before .before .advance .ensures in
     let d : stateOf (c .before .before .before .before .before .before .before .before .before .decode2 .result) ≡ decodeState base s = ap stateOf (c .before .before .before .before .before .before .before .before .before .decode2 .ensures) in (
-      v .0 ∙ ap (λ (u : State). length (advance base u b (a .file .now) .written)) d,
+      v .0 ∙ ap (λ (u : State). length (advance base u b (files (a .file .now)) .written)) d,
       (
         c .before .before .encode2 .ensures ∙ ap (λ (u : UnitState). encodeState (stateOf u)) (v .1 .0)
-            ∙ ap (λ (u : State). encodeState (advance base u b (a .file .now) .next)) d,
-        v .1 .1 ∙ ap (λ (u : State). atFront (advance base u b (a .file .now) .written) (a .out .now)) d,
+            ∙ ap (λ (u : State). encodeState (advance base u b (files (a .file .now)) .next)) d,
+        v .1 .1 ∙ ap (λ (u : State). atFront (advance base u b (files (a .file .now)) .written) (a .out .now)) d,
       ),
     )
 

@@ -17,9 +17,9 @@ returns : tie.Need-returns
 returns c =
     let n = c .before .before .begin-number in
     let a = c .before .before .before .before .before .args in (
-      n .ensures ∙ sym (begin-result base (a .side) (a .session) (a .key .now) (a .label .now)),
+      n .ensures (a .session) ∙ sym (begin-result base (parameters (a .side) (a .session)) (a .key .now) (a .label .now)),
       (
-        c .cleared .ensures ∙ ap unitOf (sym (begin-refused base (a .side) (a .session) (a .key .now) (a .label .now) (λ e. c .before .if1 .taken (n .ensures ∙ e)))),
+        c .cleared .ensures ∙ ap unitOf (sym (begin-refused base (parameters (a .side) (a .session)) (a .key .now) (a .label .now) (λ e. c .before .if1 .taken (n .ensures (a .session) ∙ e)))),
         (begins base, base-demand3 .privacy),
       ),
     )
@@ -27,28 +27,28 @@ returns c =
 array-32-requires : tie.Need-array-32-requires
 array-32-requires c κs =
     let a = c .before .before .before .before .args in
-    let f = begin-fits base (a .side) (a .session) (a .key .now) (a .label .now) (sym (c .before .begin-number .ensures) ∙ c .if1 .left) in
+    let f = begin-fits base (parameters (a .side) (a .session)) (a .key .now) (a .label .now) (sym (c .before .begin-number .ensures (a .session)) ∙ c .if1 .left) in
     omega (arith, f .key-length)
 
 array-32-requires-2 : tie.Need-array-32-requires-2
 array-32-requires-2 c κs =
     let a = c .before .before .before .before .before .args in
-    let f = begin-fits base (a .side) (a .session) (a .key .now) (a .label .now) (sym (c .before .before .begin-number .ensures) ∙ c .before .if1 .left) in
+    let f = begin-fits base (parameters (a .side) (a .session)) (a .key .now) (a .label .now) (sym (c .before .before .begin-number .ensures (a .session)) ∙ c .before .if1 .left) in
     omega (arith, f .label-length)
 
 returns-2 : tie.Need-returns-2
 returns-2 c =
     let n = c .before .before .before .before .begin-number in
     let a = c .before .before .before .before .before .before .before .args in
-    let z = sym (n .ensures) ∙ c .before .before .before .if1 .left in
-    let f = begin-fits base (a .side) (a .session) (a .key .now) (a .label .now) z in
+    let z = sym (n .ensures (a .session)) ∙ c .before .before .before .if1 .left in
+    let f = begin-fits base (parameters (a .side) (a .session)) (a .key .now) (a .label .now) z in
     let k : c .before .before .array-32 .result ≡ a .key .now = c .before .before .array-32 .ensures ∙ take-all 32 (a .key .now) (omega (arith, f .key-length)) in
     let l : c .before .array-322 .result ≡ a .label .now = c .before .array-322 .ensures ∙ take-all 32 (a .label .now) (omega (arith, f .label-length)) in
     let s : a .side % 256 ≡ a .side = omega (arith, f .side-small) in (
-      sym (begin-result base (a .side) (a .session) (a .key .now) (a .label .now) ∙ z),
+      sym (begin-result base (parameters (a .side) (a .session)) (a .key .now) (a .label .now) ∙ z),
       (
         c .with-halves .ensures ∙ (λ i. unitOf (begun base (parameters (s i) (a .session)) (k i) (l i)))
-            ∙ ap unitOf (sym (begin-accepted base (a .side) (a .session) (a .key .now) (a .label .now) z)),
+            ∙ ap unitOf (sym (begin-accepted base (parameters (a .side) (a .session)) (a .key .now) (a .label .now) z)),
         (begins base, base-demand3 .privacy),
       ),
     )

@@ -1,12 +1,14 @@
 -- `pair_units::steps::advance` meets its contract: by what the unit waits for.
-use mathlib.Core.Path.{_≡_, sym, ap, _∙_}
+use mathlib.Core.Path.{_≡_, sym, ap, _∙_, subst}
+use Prim.Native.Nat.{ℕ}
 use native.Mathlib.Omega.{arith}
 use borrow.Author.Needs.{needs}
 use lib.ListN.{length}
 use Rattle.numbers.specs.Number.{atFront}
+use Rattle.pair_model.specs.Scheme.{files}
 use Rattle.pair_model.specs.Base.{base}
 use Rattle.pair_model.specs.Frame.{parameters, frameBytes, bodyOf}
-use Rattle.pair_model.specs.Unit.{Stepped}
+use Rattle.pair_model.specs.Unit.{Stepped, stepReading}
 use Rattle.pair_model.proofs.Theorem.StepLaws.{fits}
 use Rattle.pair_model.proofs.Internal.Lengths.{deal-length, open-length, share-length}
 use Rattle.pair_model.proofs.Internal.Advances.{advance-deal, advance-open, advance-mask}
@@ -18,7 +20,7 @@ take-deal-requires : tie.Need-take-deal-requires
 take-deal-requires c κs =
     let s = c .before .before .before .before .before in
     let u = s .args .u in
-    let h = fits base (parameters (u .side) (u .session)) (u .stage) (s .args .f .now) (s .args .file .now) (length (s .args .out .now)) (s .pre) in
+    let h = fits base (parameters (u .side) (u .session)) (u .stage) (s .args .f .now) (files (s .args .file .now)) (length (s .args .out .now)) (s .pre) in
     (h .frame-length ∙ ap (frameBytes base) (c .before .if1 .taken), h .room)
 
 returns : tie.Need-returns
@@ -26,7 +28,7 @@ returns c =
     let a = c .before .before .before .before .before .before .before .before .args in
     let u = stateOf (a .u) in
     let b = bodyOf (a .f .now) in
-    let e = sym (advance-deal u b (a .file .now) (c .before .before .before .before .if1 .taken)) in
+    let e = sym (advance-deal u b (files (a .file .now)) (c .before .before .before .before .if1 .taken)) in
     let t = c .before .before .take-deal .ensures in (
       deal-length u b ∙ ap (λ (s : Stepped). length (s .written)) e,
       (t .0 ∙ ap (λ (s : Stepped). unitOf (s .next)) e, t .1 ∙ ap (λ (s : Stepped). atFront (s .written) (a .out .now)) e),
@@ -36,7 +38,7 @@ take-open-requires : tie.Need-take-open-requires
 take-open-requires c κs =
     let s = c .before .before .before .before .before .before in
     let u = s .args .u in
-    let h = fits base (parameters (u .side) (u .session)) (u .stage) (s .args .f .now) (s .args .file .now) (length (s .args .out .now)) (s .pre) in
+    let h = fits base (parameters (u .side) (u .session)) (u .stage) (s .args .f .now) (files (s .args .file .now)) (length (s .args .out .now)) (s .pre) in
     (h .frame-length ∙ ap (frameBytes base) (c .before .if2 .taken), h .room)
 
 returns-2 : tie.Need-returns-2
@@ -44,7 +46,7 @@ returns-2 c =
     let a = c .before .before .before .before .before .before .before .before .before .args in
     let u = stateOf (a .u) in
     let b = bodyOf (a .f .now) in
-    let e = sym (advance-open u b (a .file .now) (c .before .before .before .before .if2 .taken)) in
+    let e = sym (advance-open u b (files (a .file .now)) (c .before .before .before .before .if2 .taken)) in
     let t = c .before .before .take-open .ensures in (
       open-length u b _ ∙ ap (λ (s : Stepped). length (s .written)) e,
       (t .0 ∙ ap (λ (s : Stepped). unitOf (s .next)) e, t .1 ∙ ap (λ (s : Stepped). atFront (s .written) (a .out .now)) e),
@@ -54,9 +56,9 @@ take-mask-requires : tie.Need-take-mask-requires
 take-mask-requires c κs =
     let s = c .before .before .before .before .before .before in
     let u = s .args .u in
-    let h = fits base (parameters (u .side) (u .session)) (u .stage) (s .args .f .now) (s .args .file .now) (length (s .args .out .now)) (s .pre) in
+    let h = fits base (parameters (u .side) (u .session)) (u .stage) (s .args .f .now) (files (s .args .file .now)) (length (s .args .out .now)) (s .pre) in
     let m : u .stage ≡ 3 = omega (arith, h .low, h .high) in
-    (h .frame-length ∙ ap (frameBytes base) m, omega (arith, h .room), h .file-length m)
+    (h .frame-length ∙ ap (frameBytes base) m, omega (arith, h .room), subst (λ (kind : ℕ). length (stepReading base kind .content (files (s .args .file .now))) ≡ stepReading base kind .bytes) m (h .read-length))
 
 returns-3 : tie.Need-returns-3
 returns-3 c =
@@ -64,11 +66,11 @@ returns-3 c =
     let a = s .args in
     let u = stateOf (a .u) in
     let b = bodyOf (a .f .now) in
-    let h = fits base (u .parameters) (u .stage) (a .f .now) (a .file .now) (length (a .out .now)) (s .pre) in
+    let h = fits base (u .parameters) (u .stage) (a .f .now) (files (a .file .now)) (length (a .out .now)) (s .pre) in
     let m : u .stage ≡ 3 = omega (arith, h .low, h .high) in
-    let e = sym (advance-mask u b (a .file .now) m) in
+    let e = sym (advance-mask u b (files (a .file .now)) m) in
     let t = c .before .before .take-mask .ensures in (
-      share-length u b (a .file .now) ∙ ap (λ (s : Stepped). length (s .written)) e,
+      share-length u b (files (a .file .now)) ∙ ap (λ (s : Stepped). length (s .written)) e,
       (t .0 ∙ ap (λ (s : Stepped). unitOf (s .next)) e, t .1 ∙ ap (λ (s : Stepped). atFront (s .written) (a .out .now)) e),
     )
 

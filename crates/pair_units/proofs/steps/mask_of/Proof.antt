@@ -1,6 +1,6 @@
 -- `pair_units::steps::mask_of` meets its contract: two products make the mask, since the product is linear.
-use mathlib.Core.List.{[]}
 use borrow.Author.Needs.{needs}
+use Rattle.pair_model.specs.Scheme.{noFiles}
 use Rattle.pair_model.specs.Base.{base}
 use Rattle.pair_model.proofs.Theorem.MaskLaws.{mask-of-two}
 use Rattle.pair_model.proofs.Theorem.Main.{base-linear}
@@ -16,7 +16,7 @@ returns c =
       c .before .before .product-322 .ensures,
       c .before .before .before .product-32 .ensures,
       c .before .before .before .before .label-factor .ensures,
-    ) (mask-of-two base base-linear [] (a .side) (a .key-hat) (a .label-hat) (a .key-mask) (a .label-mask) (a .z))
+    ) (mask-of-two base base-linear noFiles (a .side) (a .key-hat) (a .label-hat) (a .key-mask) (a .label-mask) (a .z))
 
 pub mask-of-spec : {M : Type 1} → statement M
 mask-of-spec =

@@ -11,6 +11,7 @@ use Rattle.linear_model.specs.Trits.{innerShare}
 use Rattle.linear_model.specs.Products.{matrixProduct}
 use Rattle.matrix_model.specs.File.{rows}
 use Rattle.matrix_model.proofs.Product.{product-of-file}
+use Rattle.pair_model.specs.Scheme.{files}
 use Rattle.pair_model.specs.Base.{base}
 use Rattle.pair_model.specs.Frame.{shareKind, frame, bodyOf}
 use Rattle.pair_model.specs.Evaluator.{codeOf}
@@ -40,7 +41,7 @@ returns c =
     let long : length (p .file-product .result) ≡ 22 = omega arith in (
       c .cleared .ensures,
       w .write-frame .ensures ∙ (λ j. frame shareKind (s .parameters) (share j) ++ drop (6 + long j) o)
-          ∙ ap (λ (n : ℕ). takeMask base s b (a .file .now) .written ++ drop n o) (share-length s b (a .file .now)),
+          ∙ ap (λ (n : ℕ). takeMask base s b (files (a .file .now)) .written ++ drop n o) (share-length s b (files (a .file .now))),
     )
 
 pub take-mask-spec : {M : Type 1} → statement M

@@ -3,6 +3,7 @@ use mathlib.Core.Path.{sym, ap, _∙_}
 use borrow.Author.Needs.{needs}
 use Rattle.linear_model.specs.Bits.{zeros}
 use Rattle.numbers.specs.Number.{atFront}
+use Rattle.pair_model.specs.Scheme.{files}
 use Rattle.pair_model.specs.Base.{base}
 use Rattle.pair_model.specs.Unit.{Stepped, leastOutput}
 use Rattle.pair_model.proofs.Theorem.StepLaws.{step-accepted}
@@ -14,7 +15,7 @@ returns : tie.Need-returns
 returns c =
     let s = c .before .before .before .before .before .before in
     let v = c .before .before .advance .ensures in
-    let e = sym (step-accepted base (stateOf (s .args .u)) (s .args .f .now) (s .args .file .now) (leastOutput base) (s .pre)) in
+    let e = sym (step-accepted base (stateOf (s .args .u)) (s .args .f .now) (files (s .args .file .now)) (leastOutput base) (s .pre)) in
     record {
       frame-is = v .1 .1 ∙ ap (λ (t : Stepped). atFront (t .written) (zeros (leastOutput base))) e;
       next-is = ap stateOf (v .1 .0) ∙ ap (λ (t : Stepped). t .next) e;

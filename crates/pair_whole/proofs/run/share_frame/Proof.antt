@@ -5,6 +5,7 @@ use Prim.Native.Nat.{ℕ}
 use borrow.Author.Needs.{needs}
 use lib.ListN.{take, drop}
 use Rattle.linear_model.specs.Bits.{zeros}
+use Rattle.pair_model.specs.Scheme.{files}
 use Rattle.pair_model.specs.Base.{base}
 use Rattle.pair_model.specs.Frame.{maskKind, shareKind, frameBytes, bodyOf}
 use Rattle.pair_model.specs.Unit.{takeMask}
@@ -19,7 +20,7 @@ returns c =
     let u = stateOf (a .u) in
     let b = bodyOf (take (frameBytes base maskKind) (a .t2)) in
     c .before .take-mask .ensures .1
-    ∙ ap (λ (n : ℕ). takeMask base u b (a .file .now) .written ++ drop n (zeros (frameBytes base shareKind))) (sym (share-length u b (a .file .now)))
+    ∙ ap (λ (n : ℕ). takeMask base u b (files (a .file .now)) .written ++ drop n (zeros (frameBytes base shareKind))) (sym (share-length u b (files (a .file .now))))
     ∙ append-nil _
 
 pub share-frame-spec : {M : Type 1} → statement M

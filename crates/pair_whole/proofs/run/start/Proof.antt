@@ -1,6 +1,7 @@
 -- `pair_whole::run::start` meets its contract: the step is that of the begun state.
 use mathlib.Core.Path.{ap, _∙_}
 use borrow.Author.Needs.{needs}
+use Rattle.pair_model.specs.Scheme.{files}
 use Rattle.pair_model.specs.Base.{base}
 use Rattle.pair_model.specs.Unit.{leastOutput, stepNumber}
 use Rattle.pair_units.specs.declared.state.UnitState.{UnitState}
@@ -11,7 +12,7 @@ use Rattle.pair_whole.proofs.run.start.Tie as tie
 send-requires : tie.Need-send-requires
 send-requires c κs =
     let s = c .before .before .before .before .before .before in
-    ap (λ (u : UnitState). stepNumber base (stateOf u .parameters) (stateOf u .stage) (s .args .f .now) (s .args .file .now) (leastOutput base)) (c .before .begin .ensures .1 .0) ∙ s .pre
+    ap (λ (u : UnitState). stepNumber base (stateOf u .parameters) (stateOf u .stage) (s .args .f .now) (files (s .args .file .now)) (leastOutput base)) (c .before .begin .ensures .1 .0) ∙ s .pre
 
 returns : tie.Need-returns
 returns c = rw (c .before .before .begin .ensures .1 .0) at (c .send .ensures)

@@ -3,6 +3,7 @@ use mathlib.Core.Path.{_≡_, refl, sym, ap, _∙_}
 use native.Mathlib.Omega.{arith}
 use borrow.Author.Needs.{needs}
 use Rattle.pair_model.specs.Base.{base}
+use Rattle.pair_model.specs.Frame.{parameters}
 use Rattle.pair_model.specs.Unit.{begin}
 use Rattle.pair_model.specs.StateSlice.{encodeState, decodeState}
 use Rattle.pair_model.proofs.Internal.Begins.{begin-result, begin-accepted, begin-refused}
@@ -18,7 +19,7 @@ use Rattle.protocol.proofs.units.pair_begin.Tie as tie
 returns : tie.Need-returns
 returns c =
     let short = c .if1 .taken in
-    let b = begin-short base _ short _ _ _ _ in
+    let b = begin-short base _ short _ _ _ in
     (b .0, (b .1, ((λ z. absurd (omega (arith, z))), ((λ z l. absurd (short l)), ((λ l. (refl, refl)), ((λ l. absurd (short l)), (states-fit base, (calls-are-runs base, (begins base, base-demand3 .privacy)))))))))
 
 returns-2 : tie.Need-returns-2
@@ -26,23 +27,22 @@ returns-2 c =
     let g = c .before .before .before .before .before in
     let k = g .before .before in
     let a = k .before .before .before .args in
-    let side = a .side in
-    let session = a .session in
+    let t = parameters (a .side) (a .session) in
     let key = a .key .now in
     let label = a .label .now in
     let long = g .before .if1 .left in
-    let b = begin-long base _ long side session key label in
+    let b = begin-long base _ long t key label in
     let number = g .begin .ensures .0 in
-    let held : _ ≡ encodeState (begin base side session key label .next) = c .before .before .encode .ensures ∙ ap (λ (u : UnitState). encodeState (stateOf u)) (g .begin .ensures .1 .0) in
-    let is = number ∙ begin-result base side session key label in
-    let next = ap (decodeState base) (held ∙ b .1) ∙ decoded-begun base _ long side session key label (omega arith) (λ i. k .before .before .shared-slice-known .given i .fits) (λ i. k .before .shared-slice-known2 .given i .fits) in (
+    let held : _ ≡ encodeState (begin base t key label .next) = c .before .before .encode .ensures ∙ ap (λ (u : UnitState). encodeState (stateOf u)) (g .begin .ensures .1 .0) in
+    let is = number ∙ begin-result base t key label in
+    let next = ap (decodeState base) (held ∙ b .1) ∙ decoded-begun base _ long t key label (record { session = omega arith }) (λ i. k .before .before .shared-slice-known .given i .fits) (λ i. k .before .shared-slice-known2 .given i .fits) in (
       number ∙ b .0,
       (
         held ∙ b .1,
         (
-          (λ z. held ∙ ap encodeState (begin-accepted base side session key label (sym is ∙ z))),
+          (λ z. held ∙ ap encodeState (begin-accepted base t key label (sym is ∙ z))),
           (
-            (λ z l. held ∙ ap encodeState (begin-refused base side session key label (λ q. z (is ∙ q)))),
+            (λ z l. held ∙ ap encodeState (begin-refused base t key label (λ q. z (is ∙ q)))),
             ((λ l. absurd (l long)), ((λ l. next), (states-fit base, (calls-are-runs base, (begins base, base-demand3 .privacy))))),
           ),
         ),

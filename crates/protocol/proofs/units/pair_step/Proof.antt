@@ -6,6 +6,7 @@ use Prim.Native.Nat.{ℕ}
 use borrow.Author.Needs.{needs}
 use lib.ListN.{length, getD}
 use Rattle.numbers.specs.Number.{atFront}
+use Rattle.pair_model.specs.Scheme.{Files, files}
 use Rattle.pair_model.specs.Base.{base}
 use Rattle.pair_model.specs.Frame.{parameters, sessionOf}
 use Rattle.pair_model.specs.Unit.{stepNumber}
@@ -17,15 +18,15 @@ use Rattle.protocol.proofs.units.pair_step.Statement.{statement}
 use Rattle.protocol.proofs.units.pair_step.Tie as tie
 
 -- the number by the slice's bytes is that of its state
-of-state : (s f file : List ℕ) (n session : ℕ) → session ≡ sessionOf s
-    → stepNumber base (parameters (getD s 1 0) session) (getD s 0 0) f file n ≡ stepNumber base (decodeState base s .parameters) (decodeState base s .stage) f file n
+of-state : (s f : List ℕ) (lent : Files) (n session : ℕ) → session ≡ sessionOf s
+    → stepNumber base (parameters (getD s 1 0) session) (getD s 0 0) f lent n ≡ stepNumber base (decodeState base s .parameters) (decodeState base s .stage) f lent n
 unfolding decodeState
-of-state s f file n session e = ap (λ (x : ℕ). stepNumber base (parameters (getD s 1 0) x) (getD s 0 0) f file n) e
+of-state s f lent n session e = ap (λ (x : ℕ). stepNumber base (parameters (getD s 1 0) x) (getD s 0 0) f lent n) e
 
 returns : tie.Need-returns
 returns c =
     let a = c .before .before .before .before .before .args in
-    let b = step-short base (a .state .now) (c .if1 .taken) (a .f .now) (a .file .now) (length (a .out .now)) in
+    let b = step-short base (a .state .now) (c .if1 .taken) (a .f .now) (files (a .file .now)) (length (a .out .now)) in
     (b .0, (b .1, (rw (b .2), (rw (b .2), ((λ l. absurd (c .if1 .taken l)), (calls-are-runs base, theorem-and-evidence))))))
 
 returns-2 : tie.Need-returns-2
@@ -34,7 +35,7 @@ returns-2 c =
     let a = k .before .before .before .before .before .args in
     let s = a .state .now in
     let f = a .f .now in
-    let file = a .file .now in
+    let file = files (a .file .now) in
     let o = a .out .now in
     let long = k .if1 .left in
     let e = c .before .step-number .ensures ∙ of-state s f file (length o) _ (c .before .before .before .session-of .ensures) in
@@ -47,7 +48,7 @@ advance-slice-requires c κs =
     let a = c .before .before .before .before .before .before .before .before .before .before .before .before .before .args in
     let s = a .state .now in (
       c .before .before .before .before .before .before .before .before .if1 .left,
-      ap (λ (x : ℕ). stepNumber base (parameters (getD s 1 0) x) (getD s 0 0) (a .f .now) (a .file .now) (length (a .out .now))) (sym (c .before .before .before .before .before .session-of .ensures))
+      ap (λ (x : ℕ). stepNumber base (parameters (getD s 1 0) x) (getD s 0 0) (a .f .now) (files (a .file .now)) (length (a .out .now))) (sym (c .before .before .before .before .before .session-of .ensures))
           ∙ sym (c .before .before .before .step-number .ensures) ∙ c .before .before .if2 .left,
     )
 
@@ -58,7 +59,7 @@ returns-3 c =
     let a = k .before .before .before .before .before .args in
     let s = a .state .now in
     let f = a .f .now in
-    let file = a .file .now in
+    let file = files (a .file .now) in
     let o = a .out .now in
     let long = k .if1 .left in
     let e = g .before .step-number .ensures ∙ of-state s f file (length o) _ (g .before .before .before .session-of .ensures) in

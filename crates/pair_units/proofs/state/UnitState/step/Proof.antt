@@ -4,6 +4,7 @@ use borrow.Author.Needs.{needs}
 use lib.ListN.{length}
 use Rattle.numbers.specs.Number.{atFront}
 use Rattle.pair_model.specs.Unit.{Stepped}
+use Rattle.pair_model.specs.Scheme.{files}
 use Rattle.pair_model.specs.Base.{base}
 use Rattle.pair_model.proofs.Theorem.StepLaws.{step-accepted, step-result, step-refused}
 use Rattle.pair_model.proofs.Evidence.Whole.{theorem-and-evidence}
@@ -17,7 +18,7 @@ returns c =
     let a = c .before .before .before .before .before .args in
     let u = stateOf (a .self) in
     let f = a .f .now in
-    let file = a .file .now in
+    let file = files (a .file .now) in
     let m = length (a .out .now) in
     let e = sym (step-refused base u f file m (λ r. c .if1 .taken (n .ensures ∙ sym (step-result base u f file m) ∙ r))) in (
       n .ensures ∙ ap (λ (s : Stepped). s .result) e,
@@ -36,9 +37,9 @@ returns-2 c =
     let a = c .before .before .before .before .before .before .before .before .before .before .args in
     let z = sym (i .before .step-number .ensures) ∙ i .if1 .left in
     let u = stateOf (a .self) in
-    let e = sym (step-accepted base u (a .f .now) (a .file .now) (length (a .out .now)) z) in
+    let e = sym (step-accepted base u (a .f .now) (files (a .file .now)) (length (a .out .now)) z) in
     let t = c .before .before .before .advance .ensures in (
-      sym (step-result base u (a .f .now) (a .file .now) (length (a .out .now)) ∙ z),
+      sym (step-result base u (a .f .now) (files (a .file .now)) (length (a .out .now)) ∙ z),
       (
         t .0 ∙ ap (λ (s : Stepped). length (s .written)) e,
         (
