@@ -1,82 +1,94 @@
--- What a frame brings, by its kind: the number of the file that is read, or that of a deal's trits.
+-- What a step reads, by the kind of its frame: the lengths' number, and that of the content or of a deal's trits.
 use mathlib.Core.Path.{_≡_, refl, sym, ap, _∙_}
 use mathlib.Core.List.{List, [], _∷_, _++_}
 use mathlib.Core.Bool.{Bool, true, false, cond, not, _&&_}
-use Prim.Native.Nat.{ℕ, _*_, _/_, min}
+use Prim.Native.Nat.{ℕ, _+_, _*_, _/_, min}
 use native.Mathlib.Omega.{arith}
 use borrow.Author.Tests.{eq-eqb, ne-eqb}
 use lib.Dec.{ltb, eqb, lit<}
-use lib.ListN.{length, drop, length-drop}
+use lib.ListN.{length, take, drop, length-drop}
 use lib.Seq.{length-take-le}
 use Rattle.linear_model.specs.Trits.{fitTrits}
 use Rattle.numbers.specs.Number.{_when_, first, onlyIf}
 use Rattle.numbers.proofs.Numbers.{first-end}
-use Rattle.matrix_model.specs.File.{faults, checkNumber}
-use Rattle.pair_model.specs.Scheme.{files, readsNothing, badLength, faultsIn, field}
+use Rattle.matrix_model.specs.File.{checkNumber}
+use Rattle.pair_model.specs.Scheme.{Files, files, Reading, readsNothing, badLength, faultsIn, readingNumber, Scheme, layoutBytes, field}
 use Rattle.pair_model.specs.Base.{base}
 use Rattle.pair_model.specs.Tape.{dealLayout}
-use Rattle.pair_model.specs.Frame.{dealKind, openKind, maskKind, kindOf, bodyOf, frameBytes}
+use Rattle.pair_model.specs.Frame.{dealKind, openKind, maskKind, headerBytes, kindOf, bodyOf, frameBytes}
 use Rattle.pair_model.specs.Unit.{stepReading, leastOutput, unfitDeal, lengthConditions, contentConditions}
 use Rattle.pair_model.proofs.Internal.Fields.{field-at}
 
--- the check of a file of the right length gives the number of its faults
-pub check-number : (file : List ℕ) → length file ≡ base .rowsReading .bytes → checkNumber file ≡ first (faults file)
-unfolding checkNumber first
-check-number file h = rw (eq-eqb (length file) (base .rowsReading .bytes) h)
+-- the matrix check gives the number of what is read for the rows
+pub check-number : (file : List ℕ) → checkNumber file ≡ readingNumber (base .rowsReading) (files file)
+unfolding checkNumber readingNumber
+check-number file = refl
 
--- of what a step reads, the length is that of the file where it is read
-length-read : (kind : ℕ) (file : List ℕ)
-    → badLength (stepReading base kind) (files file) ≡ (eqb kind maskKind && not (eqb (length file) (base .rowsReading .bytes)))
-length-read kind file = pick (eqb kind maskKind) (eqb kind openKind)
-  where
-    pick : (b c : Bool) → badLength (cond b (base .rowsReading) (cond c readsNothing readsNothing)) (files file) ≡ (b && not (eqb (length file) (base .rowsReading .bytes)))
-    pick true c = refl
-    pick false true = refl
-    pick false false = refl
+-- where its length is right, that of the faults
+pub faults-number : (reading : Reading) (lent : Files) → length (reading .content lent) ≡ reading .bytes → readingNumber reading lent ≡ first (faultsIn reading lent)
+unfolding readingNumber first
+faults-number reading lent h = rw (eq-eqb (length (reading .content lent)) (reading .bytes) h)
 
--- so the lengths' number is decided by the room and the file
-pub lengths-number : (f file : List ℕ) (n : ℕ)
-    → first (lengthConditions base f (files file) n)
-    ≡ cond (ltb n (leastOutput base)) 1 (cond (eqb (kindOf f) maskKind && not (eqb (length file) (base .rowsReading .bytes))) 1 0)
-unfolding first
-lengths-number f file n = λ j. first (1 when ltb n (leastOutput base) ∷ 1 when length-read (kindOf f) file j ∷ [])
+-- the planes of a vector of trits are the halves of its bytes
+pub fit-vector : (m : ℕ) (v : List ℕ) → length v ≡ 2 * m → fitTrits (length v / 2) (min (8 * m) (8 * (length v / 2))) v ≡ fitTrits m (8 * m) v
+fit-vector m v e =
+    let h : length v / 2 ≡ m = omega arith in
+    let k : min (8 * m) (8 * m) ≡ 8 * m = omega arith in
+    ap (λ (x : ℕ). fitTrits x (min (8 * m) (8 * x)) v) h ∙ ap (λ (x : ℕ). fitTrits m x v) k
 
--- the planes of an inner vector are the halves of its bytes
-pub fit-vector : (v : List ℕ) → length v ≡ 2 * base .innerBytes
-    → fitTrits (length v / 2) (min (8 * base .innerBytes) (8 * (length v / 2))) v ≡ fitTrits (base .innerBytes) (8 * base .innerBytes) v
-fit-vector v e =
-    let h : length v / 2 ≡ base .innerBytes = omega arith in
-    ap (λ (m : ℕ). fitTrits m (min 256 (8 * m)) v) h
+-- ---- a scheme whose product reads no file
 
-module _ (f file : List ℕ) where
-  pub content-read : kindOf f ≡ maskKind → length file ≡ base .rowsReading .bytes → checkNumber file ≡ first (contentConditions base f (files file))
-  unfolding onlyIf
-  content-read k h =
-      check-number file h
-      ∙ sym (ap first (λ i. faultsIn (stepReading base (k i)) (files file) ++ onlyIf (eqb (k i) dealKind) (10 when unfitDeal base f ∷ [])) ∙ first-end (faults file))
-
-  -- no other frame has a file read
-  pub content-other : (kindOf f ≡ maskKind → ⊥) → (kindOf f ≡ dealKind → ⊥) → 0 ≡ first (contentConditions base f (files file))
-  unfolding first onlyIf
-  content-other r h = rw (ne-eqb (kindOf f) maskKind r, ne-eqb (kindOf f) dealKind h) (pick (eqb (kindOf f) openKind))
+module _ (S : Scheme) (none : S .productReading ≡ readsNothing) where
+  reading-is : (kind : ℕ) → stepReading S kind ≡ cond (eqb kind maskKind) (S .rowsReading) readsNothing
+  reading-is kind = (λ j. cond (eqb kind maskKind) (S .rowsReading) (cond (eqb kind openKind) (none j) readsNothing)) ∙ pick (eqb kind maskKind) (eqb kind openKind)
     where
-      pick : (b : Bool) → 0 ≡ first (cond b readsNothing readsNothing .faults (cond b readsNothing readsNothing .content (files file)) ++ [])
+      pick : (b c : Bool) → cond b (S .rowsReading) (cond c readsNothing readsNothing) ≡ cond b (S .rowsReading) readsNothing
+      pick true c = refl
+      pick false true = refl
+      pick false false = refl
+
+  -- the lengths' number is decided by the room and by what is read for the rows
+  pub lengths-number : (f : List ℕ) (lent : Files) (n : ℕ)
+      → first (lengthConditions S f lent n)
+      ≡ cond (ltb n (leastOutput S)) 1 (cond (eqb (kindOf f) maskKind && badLength (S .rowsReading) lent) 1 0)
+  unfolding first
+  lengths-number f lent n =
+      (λ j. first (1 when ltb n (leastOutput S) ∷ 1 when badLength (reading-is (kindOf f) j) lent ∷ []))
+      ∙ ap (λ (b : Bool). cond (ltb n (leastOutput S)) 1 (cond b 1 0)) (pick (eqb (kindOf f) maskKind))
+    where
+      pick : (b : Bool) → badLength (cond b (S .rowsReading) readsNothing) lent ≡ (b && badLength (S .rowsReading) lent)
       pick true = refl
       pick false = refl
 
-  module _ (k : kindOf f ≡ dealKind) (l : length f ≡ frameBytes base (kindOf f)) where
-    long : length (field (dealLayout base) 3 (bodyOf f)) ≡ 64
-    long =
-        let e : length f ≡ 166 = l ∙ ap (frameBytes base) k in
-        ap length (sym (field-at (dealLayout base) 3 6 f (lit< tt))) ∙ length-take-le 64 (drop 102 f) (rw length-drop (omega arith))
+  -- at a frame that is neither a mask frame nor a deal nothing is judged
+  pub content-none : (f : List ℕ) (lent : Files) → (kindOf f ≡ maskKind → ⊥) → (kindOf f ≡ dealKind → ⊥) → 0 ≡ first (contentConditions S f lent)
+  unfolding first onlyIf
+  content-none f lent r h =
+      sym (λ j. first (faultsIn ((reading-is (kindOf f) ∙ ap (λ (b : Bool). cond b (S .rowsReading) readsNothing) (ne-eqb (kindOf f) maskKind r)) j) lent
+      ++ onlyIf (ne-eqb (kindOf f) dealKind h j) (10 when unfitDeal S f ∷ [])))
 
-    -- the test of r decides
-    pub content-deal : (b : Bool) (v : List ℕ) → v ≡ field (dealLayout base) 3 (bodyOf f) → b ≡ fitTrits (length v / 2) (min 256 (8 * (length v / 2))) v
-        → _≡_ {A = ℕ} (cond b 0 10) (first (contentConditions base f (files file)))
+-- ---- any scheme
+
+module _ (S : Scheme) (f : List ℕ) (lent : Files) where
+  -- at a mask frame: what is read for the rows
+  pub content-rows : kindOf f ≡ maskKind → first (faultsIn (S .rowsReading) lent) ≡ first (contentConditions S f lent)
+  unfolding onlyIf
+  content-rows k =
+      sym ((λ i. first (faultsIn (stepReading S (k i)) lent ++ onlyIf (eqb (k i) dealKind) (10 when unfitDeal S f ∷ []))) ∙ first-end (faultsIn (S .rowsReading) lent))
+
+  module _ (k : kindOf f ≡ dealKind) (l : length f ≡ frameBytes S (kindOf f)) where
+    long : length (field (dealLayout S) 3 (bodyOf f)) ≡ 2 * S .innerBytes
+    long =
+        let e : length f ≡ frameBytes S dealKind = l ∙ ap (frameBytes S) k in
+        ap length (sym (field-at (dealLayout S) 3 headerBytes f (lit< tt))) ∙ length-take-le (2 * S .innerBytes) (drop (headerBytes + layoutBytes (take 3 (dealLayout S))) f) (rw length-drop (omega arith))
+
+    -- at a deal the test of r decides
+    pub content-deal : (b : Bool) (v : List ℕ) → v ≡ field (dealLayout S) 3 (bodyOf f)
+        → b ≡ fitTrits (length v / 2) (min (8 * S .innerBytes) (8 * (length v / 2))) v → _≡_ {A = ℕ} (cond b 0 10) (first (contentConditions S f lent))
     unfolding first onlyIf
     content-deal b v e d =
-        let x : length v ≡ 64 = ap length e ∙ long in
-        let q : b ≡ fitTrits 32 256 (field (dealLayout base) 3 (bodyOf f)) = d ∙ fit-vector v x ∙ ap (fitTrits 32 256) e in
+        let m = S .innerBytes in
+        let q : b ≡ fitTrits m (8 * m) (field (dealLayout S) 3 (bodyOf f)) = d ∙ fit-vector m v (ap length e ∙ long) ∙ ap (fitTrits m (8 * m)) e in
         rw (k, ← q) (pick b)
       where
         pick : (b : Bool) → _≡_ {A = ℕ} (cond b 0 10) (cond (not b) 10 0)

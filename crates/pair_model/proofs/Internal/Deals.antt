@@ -1,100 +1,118 @@
 -- The dealer's number, by its tests, and what it writes.
 use mathlib.Core.Path.{_≡_, sym, ap, _∙_}
 use mathlib.Core.List.{List, [], _∷_, _++_, append-nil, append-assoc}
-use mathlib.Core.Bool.{not}
+use mathlib.Core.Bool.{false, not}
 use Prim.Native.Nat.{ℕ, _+_, _-_, _*_, _/_, _<_, _≤_, min}
 use native.Mathlib.Omega.{arith}
+use native.Mathlib.Nat.{le-refl}
 use borrow.Author.Tests.{lt-ltb, le-ltb}
-use lib.Dec.{ltb, eqb, lit<, lit≤}
+use lib.Dec.{ltb, eqb, lit<}
 use lib.ListN.{length, take, drop, length-append, length-drop, drop-of-length-le}
 use lib.Seq.{take-at, drop-at, take-all, drop-drop, length-take-le}
 use Rattle.linear_model.specs.Bits.{zeros}
 use Rattle.linear_model.specs.Trits.{fitTrits, packTrits}
-use Rattle.linear_model.proofs.Strings.{bytes-add}
+use Rattle.linear_model.proofs.Strings.{bytes-add, length-zeros}
 use Rattle.linear_model.proofs.Vectors.{length-packTrits, bytes-subtract}
-use Rattle.numbers.specs.Number.{first, merge, output}
-use Rattle.pair_model.specs.Scheme.{Files, noFiles, Side, side0, side1, concat}
-use Rattle.pair_model.specs.Base.{base}
-use Rattle.pair_model.specs.Tape.{z, r0, r, deal}
-use Rattle.pair_model.specs.Frame.{SharedParameters, parametersOf}
-use Rattle.pair_model.specs.Sampler.{tritOf, drawn, sampled, sampleConditions, sampleNumber}
-use Rattle.pair_model.specs.Dealer.{dealFrame, dealt, dealConditions, dealNumber, dealSourceConditions, dealSourceNumber}
-use Rattle.numbers.proofs.Numbers.{first-none, is-equal, is-at-least}
+use Rattle.numbers.specs.Number.{first, output}
+use Rattle.pair_model.specs.Scheme.{Files, badLength, faultsIn, Scheme, Side, side0, side1, layoutBytes, concat}
+use Rattle.pair_model.specs.Tape.{tapeBytes, w̃, z, r0, r, dealLayout, deal}
+use Rattle.pair_model.specs.Frame.{SharedParameters, parametersOf, dealKind, frameBytes}
+use Rattle.pair_model.specs.Sampler.{tritOf, copiedBytes, drawn, sampled, sampleConditions, sampleNumber}
+use Rattle.pair_model.specs.Dealer.{dealFrame, dealt, dealtBytes, dealConditions, dealNumber, dealSourceConditions, dealSourceNumber}
+use Rattle.numbers.proofs.Numbers.{at-least, first-none, is-equal, is-at-least, NoneHolds, first-merge}
 use Rattle.pair_model.proofs.Internal.Fields.{tape-K̃0, tape-K̃1, tape-x̃0, tape-x̃1, tape-z0, tape-r0}
 use Rattle.pair_model.proofs.Internal.Lengths.{length-frame}
+use Rattle.pair_model.proofs.Internal.Contents.{fit-vector}
 
--- the last 64 bytes of a tape, judged in two planes, are r0
-pub fit-r0 : (t : List ℕ) → length t ≡ 256
-    → fitTrits (length (take 64 (drop 192 t)) / 2) (min 256 (8 * (length (take 64 (drop 192 t)) / 2))) (take 64 (drop 192 t)) ≡ fitTrits 32 256 (r0 base t)
-fit-r0 t e =
-    let l : length (take 64 (drop 192 t)) ≡ 64 = length-take-le 64 (drop 192 t) (rw length-drop (omega arith)) in
-    (λ i. fitTrits (l i / 2) (min 256 (8 * (l i / 2))) (tape-r0 t i))
+module _ (S : Scheme) where
+  abbrev m : ℕ
+  m = S .innerBytes
 
--- what is accepted has a tape of the stated length and room for both frames
-pub record Fits (t : List ℕ) (n : ℕ) : Type 0 where
-  pub tape-length : length t ≡ 256
-  pub room : 332 ≤ n
+  -- the end of a tape, judged in two planes, is r0
+  pub fit-r0 : (t : List ℕ) → length t ≡ tapeBytes S → let v = take (2 * m) (drop (4 * S .keyBytes + 2 * m) t) in
+      fitTrits (length v / 2) (min (8 * m) (8 * (length v / 2))) v ≡ fitTrits m (8 * m) (r0 S t)
+  fit-r0 t e =
+      fit-vector m _ (length-take-le (2 * m) (drop (4 * S .keyBytes + 2 * m) t) (rw length-drop (omega arith))) ∙ ap (fitTrits m (8 * m)) (tape-r0 S t)
 
-pub deal-fits : (lent : Files) (t : List ℕ) (n : ℕ) → dealNumber base lent t n ≡ 0 → Fits t n
-unfolding dealConditions
-deal-fits lent t n e =
-    let l = first-none 1 (not (eqb (length t) 256)) _ (lit< tt) e in
-    let r = first-none 1 (ltb n 332) _ (lit< tt) (l .1) in
-    record { tape-length = is-equal (length t) 256 (l .0); room = is-at-least n 332 (r .0) }
+  -- what is accepted has a tape of the stated length and room for both frames
+  pub record Fits (t : List ℕ) (n : ℕ) : Type 0 where
+    pub tape-length : length t ≡ tapeBytes S
+    pub room : dealtBytes S ≤ n
 
--- over source bytes: too little room, or else the sampler's number
-pub source-room : (lent : Files) (s : List ℕ) (n : ℕ) → n < 332 → 1 ≡ dealSourceNumber base lent s n
-unfolding first dealSourceConditions
-source-room lent s n h = simp (lt-ltb n 332 h)
+  pub deal-fits : (lent : Files) (t : List ℕ) (n : ℕ) → dealNumber S lent t n ≡ 0 → Fits t n
+  unfolding dealConditions
+  deal-fits lent t n e =
+      let l = first-none 1 (not (eqb (length t) (tapeBytes S))) _ (lit< tt) e in
+      let r = first-none 1 (ltb n (dealtBytes S)) _ (lit< tt) (l .1) in
+      record { tape-length = is-equal (length t) (tapeBytes S) (l .0); room = is-at-least n (dealtBytes S) (r .0) }
 
-pub source-number : (lent : Files) (s : List ℕ) (n : ℕ) → 332 ≤ n → sampleNumber base s 256 ≡ dealSourceNumber base lent s n
-unfolding first merge sampleConditions dealSourceConditions
-source-number lent s n h = simp (le-ltb n 332 h)
+  -- over source bytes: too little room, or else, where what the product reads is fit, the sampler's number
+  module _ (lent : Files) (s : List ℕ) (n : ℕ) where
+    pub source-room : n < dealtBytes S → 1 ≡ dealSourceNumber S lent s n
+    unfolding first dealSourceConditions
+    source-room h = simp (lt-ltb n (dealtBytes S) h)
 
--- a sampled tape fills 256 bytes
-pub sampled-whole : (s : List ℕ) → sampleNumber base s 256 ≡ 0 → output 0 (sampled base s) (zeros 256) ≡ sampled base s
-unfolding output sampled sampleConditions
-sampled-whole s e =
-    let o = first-none 1 (ltb 256 256) _ (lit< tt) e in
-    let h = first-none 13 (ltb (length s) 192) _ (lit< tt) (o .1) in
-    let v = packTrits 32 (tritOf (drawn base s .trits)) in
-    let l : length (take 192 s ++ v) ≡ 256 =
-    length-append (take 192 s) v ∙ (λ i. length-take-le 192 s (is-at-least (length s) 192 (h .0)) i + length-packTrits 32 (tritOf (drawn base s .trits)) i) in
-    ap (λ (x : ℕ). (take 192 s ++ v) ++ drop x (zeros 256)) l ∙ append-nil (take 192 s ++ v)
+    pub source-number : badLength (S .productReading) lent ≡ false → NoneHolds (faultsIn (S .productReading) lent) → dealtBytes S ≤ n
+        → sampleNumber S s (tapeBytes S) ≡ dealSourceNumber S lent s n
+    unfolding first sampleConditions dealSourceConditions
+    source-number e none h =
+        rw (at-least (tapeBytes S) (tapeBytes S) (le-refl (tapeBytes S)), le-ltb n (dealtBytes S) h, e, first-merge (faultsIn (S .productReading) lent) _ none)
 
--- a deal is as long as its fields
-four-long : (a b c d : List ℕ) → length a ≡ 32 → length b ≡ 32 → length c ≡ 32 → length d ≡ 64 → length (concat (a ∷ b ∷ c ∷ d ∷ [])) ≡ 160
-unfolding concat
-four-long a b c d ea eb ec ed = simp length-append (omega arith)
+  -- a sampled tape fills its bytes
+  pub sampled-whole : (s : List ℕ) → sampleNumber S s (tapeBytes S) ≡ 0 → output 0 (sampled S s) (zeros (tapeBytes S)) ≡ sampled S s
+  unfolding output sampled sampleConditions
+  sampled-whole s e =
+      let o = first-none 1 (ltb (tapeBytes S) (tapeBytes S)) _ (lit< tt) e in
+      let h = first-none 13 (ltb (length s) (copiedBytes S)) _ (lit< tt) (o .1) in
+      let v = packTrits m (tritOf (drawn S s .trits)) in
+      let c = length-take-le (copiedBytes S) s (is-at-least (length s) (copiedBytes S) (h .0)) in
+      let p = length-packTrits m (tritOf (drawn S s .trits)) in
+      let l : tapeBytes S ≤ length (take (copiedBytes S) s ++ v) = rw length-append (omega arith) in
+      ap (λ (x : List ℕ). (take (copiedBytes S) s ++ v) ++ x) (drop-of-length-le (zeros (tapeBytes S)) {i = length (take (copiedBytes S) s ++ v)} (rw length-zeros l))
+      ∙ append-nil (take (copiedBytes S) s ++ v)
 
-module _ (t : List ℕ) (e : length t ≡ 256) where
-  part : (k n : ℕ) → k + n ≤ 256 → length (take n (drop k t)) ≡ n
-  part k n h = length-take-le n (drop k t) (rw length-drop (omega arith))
+  -- ---- what is written
 
-  deal-long : (i : Side) → length (deal base noFiles t i) ≡ 160
-  unfolding deal z r
-  deal-long side0 =
-      four-long _ _ _ _ (ap length (sym (tape-K̃0 t)) ∙ part 0 32 (lit≤ tt)) (ap length (sym (tape-x̃0 t)) ∙ part 64 32 (lit≤ tt))
-      (ap length (sym (tape-z0 t)) ∙ part 160 32 (lit≤ tt)) (ap length (sym (tape-r0 t)) ∙ part 192 64 (lit≤ tt))
-  deal-long side1 =
-      four-long _ _ _ _ (ap length (sym (tape-K̃1 t)) ∙ part 32 32 (lit≤ tt)) (ap length (sym (tape-x̃1 t)) ∙ part 96 32 (lit≤ tt))
-      (bytes-add 32 _ _ .size) (bytes-subtract 32 _ _ .size)
+  -- a deal is as long as its fields
+  four-long : (a b c d : List ℕ) → length a ≡ S .keyBytes → length b ≡ S .keyBytes → length c ≡ m → length d ≡ 2 * m
+      → length (concat (a ∷ b ∷ c ∷ d ∷ [])) ≡ layoutBytes (dealLayout S)
+  unfolding concat
+  four-long a b c d ea eb ec ed = simp length-append (omega arith)
 
--- the second frame behind the first, over the front of d
-pub deal-written : (shared : SharedParameters) (t d o p : List ℕ) → length t ≡ 256 → 332 ≤ length d
-    → o ≡ dealFrame base shared noFiles t side0 ++ drop 166 d → p ≡ dealFrame base shared noFiles t side1 ++ drop 166 (take (length o - 166) (drop 166 o))
-    → take 166 o ++ (p ++ drop (length o - 166) (drop 166 o)) ≡ output 0 (dealt base shared noFiles t) d
-unfolding output dealt dealFrame
-deal-written shared t d o p l h e ep =
-    let a : List ℕ = dealFrame base shared noFiles t side0 in
-    let b : List ℕ = dealFrame base shared noFiles t side1 in
-    let la : length a ≡ 166 = length-frame 1 (parametersOf side0 shared) (deal base noFiles t side0) ∙ ap (λ (k : ℕ). 6 + k) (deal-long t l side0) in
-    let lb : length b ≡ 166 = length-frame 1 (parametersOf side1 shared) (deal base noFiles t side1) ∙ ap (λ (k : ℕ). 6 + k) (deal-long t l side1) in
-    let front : take 166 o ≡ a = ap (take 166) e ∙ take-at a (drop 166 d) 166 la in
-    let behind : drop 166 o ≡ drop 166 d = ap (drop 166) e ∙ drop-at a (drop 166 d) 166 la in
-    let rest : take (length o - 166) (drop 166 o) ≡ drop 166 d = take-all (length o - 166) (drop 166 o) (rw length-drop (omega arith)) ∙ behind in
-    let second : p ≡ b ++ drop 332 d = ep ∙ (λ i. b ++ drop 166 (rest i)) ∙ ap (λ (x : List ℕ). b ++ x) (drop-drop 166 166 d) in
-    let none : drop (length o - 166) (drop 166 o) ≡ [] = drop-of-length-le (drop 166 o) {i = length o - 166} (rw length-drop (omega arith)) in
-    let both : length (a ++ b) ≡ 332 = length-append a b ∙ (λ i. la i + lb i) in
-    (λ i. front i ++ (second i ++ none i)) ∙ ap (λ (x : List ℕ). a ++ x) (append-nil (b ++ drop 332 d)) ∙ sym (append-assoc a b (drop 332 d))
-    ∙ ap (λ (k : ℕ). (a ++ b) ++ drop k d) (sym both)
+  module _ (lent : Files) (t : List ℕ) (e : length t ≡ tapeBytes S) where
+    part : (k n : ℕ) {s : List ℕ} → k + n ≤ tapeBytes S → take n (drop k t) ≡ s → length s ≡ n
+    part k n h q = ap length (sym q) ∙ length-take-le n (drop k t) (rw length-drop (omega arith))
+
+    deal-long : (i : Side) → length (deal S lent t i) ≡ layoutBytes (dealLayout S)
+    unfolding deal z r
+    deal-long side0 =
+        four-long _ _ _ _ (part 0 (S .keyBytes) (omega arith) (tape-K̃0 S t)) (part (2 * S .keyBytes) (S .keyBytes) (omega arith) (tape-x̃0 S t))
+        (part (4 * S .keyBytes + m) m (omega arith) (tape-z0 S t)) (part (4 * S .keyBytes + 2 * m) (2 * m) (omega arith) (tape-r0 S t))
+    deal-long side1 =
+        four-long _ _ _ _ (part (S .keyBytes) (S .keyBytes) (omega arith) (tape-K̃1 S t)) (part (3 * S .keyBytes) (S .keyBytes) (omega arith) (tape-x̃1 S t))
+        (bytes-add m _ _ .size) (omega (arith, bytes-subtract m (w̃ S t) (r0 S t) .size))
+
+    -- a deal frame is as long as its kind says
+    pub frame-long : (shared : SharedParameters) (i : Side) → length (dealFrame S shared lent t i) ≡ frameBytes S dealKind
+    unfolding dealFrame
+    frame-long shared i = length-frame dealKind (parametersOf i shared) (deal S lent t i) ∙ ap (λ (k : ℕ). 6 + k) (deal-long i)
+
+  -- the second frame behind the first, over the front of d
+  pub deal-written : (shared : SharedParameters) (lent : Files) (t d o p : List ℕ) → length t ≡ tapeBytes S → dealtBytes S ≤ length d → let w = frameBytes S dealKind in
+      o ≡ dealFrame S shared lent t side0 ++ drop w d → p ≡ dealFrame S shared lent t side1 ++ drop w (take (length o - w) (drop w o))
+      → take w o ++ (p ++ drop (length o - w) (drop w o)) ≡ output 0 (dealt S shared lent t) d
+  unfolding output dealt
+  deal-written shared lent t d o p l h e ep =
+      let w = frameBytes S dealKind in
+      let a : List ℕ = dealFrame S shared lent t side0 in
+      let b : List ℕ = dealFrame S shared lent t side1 in
+      let la : length a ≡ w = frame-long lent t l shared side0 in
+      let lb : length b ≡ w = frame-long lent t l shared side1 in
+      let front : take w o ≡ a = ap (take w) e ∙ take-at a (drop w d) w la in
+      let behind : drop w o ≡ drop w d = ap (drop w) e ∙ drop-at a (drop w d) w la in
+      let rest : take (length o - w) (drop w o) ≡ drop w d = take-all (length o - w) (drop w o) (rw length-drop (omega arith)) ∙ behind in
+      let second : p ≡ b ++ drop (w + w) d = ep ∙ (λ i. b ++ drop w (rest i)) ∙ ap (λ (x : List ℕ). b ++ x) (drop-drop w w d) in
+      let none : drop (length o - w) (drop w o) ≡ [] = drop-of-length-le (drop w o) {i = length o - w} (rw length-drop (omega arith)) in
+      let both : length (a ++ b) ≡ w + w = length-append a b ∙ (λ i. la i + lb i) in
+      (λ i. front i ++ (second i ++ none i)) ∙ ap (λ (x : List ℕ). a ++ x) (append-nil (b ++ drop (w + w) d)) ∙ sym (append-assoc a b (drop (w + w) d))
+      ∙ ap (λ (k : ℕ). (a ++ b) ++ drop k d) (sym both)

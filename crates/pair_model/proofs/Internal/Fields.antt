@@ -1,13 +1,13 @@
--- Fields by their place; those of a tape at the sizes of document 01.
+-- Fields by their place, and those of a tape.
 use mathlib.Core.Path.{_≡_, refl, sym, ap, _∙_}
 use mathlib.Core.List.{List, [], _∷_}
-use Prim.Native.Nat.{ℕ, zero, suc, _+_, _<_}
+use Prim.Native.Nat.{ℕ, zero, suc, _+_, _*_, _<_}
+use native.Mathlib.Omega.{arith}
 use native.Mathlib.Nat.{not-suc-le-zero, le-of-suc-le-suc}
 use lib.Dec.{lit<}
 use lib.ListN.{length, getD, take, drop}
 use lib.Seq.{drop-drop}
-use Rattle.pair_model.specs.Scheme.{side0, side1, layoutBytes, field}
-use Rattle.pair_model.specs.Base.{base}
+use Rattle.pair_model.specs.Scheme.{Scheme, side0, side1, layoutBytes, field}
 use Rattle.pair_model.specs.Tape.{tapeLayout, K̃, x̃, w̃, z0, r0}
 
 -- field i starts behind the fields before it
@@ -23,31 +23,42 @@ pub field-at : (sizes : List ℕ) (i at : ℕ) (s : List ℕ) → i < length siz
     → take (getD sizes i 0) (drop (at + layoutBytes (take i sizes)) s) ≡ field sizes i (drop at s)
 field-at sizes i at s h = ap (take (getD sizes i 0)) (sym (drop-drop (layoutBytes (take i sizes)) at s)) ∙ field-place sizes i (drop at s) h
 
-module _ (t : List ℕ) where
-  pub tape-K̃0 : take 32 t ≡ K̃ base t side0
+-- those of a tape: K̃0, K̃1, x̃0, x̃1, w̃, z0, r0
+module _ (S : Scheme) (t : List ℕ) where
+  abbrev n : ℕ
+  n = S .keyBytes
+
+  abbrev m : ℕ
+  m = S .innerBytes
+
+  -- field i, at a place that is the sum of the sizes before it
+  part : (i at : ℕ) → i < 7 → at ≡ layoutBytes (take i (tapeLayout S)) → take (getD (tapeLayout S) i 0) (drop at t) ≡ field (tapeLayout S) i t
+  part i at l e = ap (λ (k : ℕ). take (getD (tapeLayout S) i 0) (drop k t)) e ∙ field-place (tapeLayout S) i t l
+
+  pub tape-K̃0 : take n t ≡ K̃ S t side0
   unfolding K̃
-  tape-K̃0 = field-place (tapeLayout base) 0 t (lit< tt)
+  tape-K̃0 = part 0 0 (lit< tt) refl
 
-  pub tape-K̃1 : take 32 (drop 32 t) ≡ K̃ base t side1
+  pub tape-K̃1 : take n (drop n t) ≡ K̃ S t side1
   unfolding K̃
-  tape-K̃1 = field-place (tapeLayout base) 1 t (lit< tt)
+  tape-K̃1 = part 1 n (lit< tt) (omega arith)
 
-  pub tape-x̃0 : take 32 (drop 64 t) ≡ x̃ base t side0
+  pub tape-x̃0 : take n (drop (2 * n) t) ≡ x̃ S t side0
   unfolding x̃
-  tape-x̃0 = field-place (tapeLayout base) 2 t (lit< tt)
+  tape-x̃0 = part 2 (2 * n) (lit< tt) (omega arith)
 
-  pub tape-x̃1 : take 32 (drop 96 t) ≡ x̃ base t side1
+  pub tape-x̃1 : take n (drop (3 * n) t) ≡ x̃ S t side1
   unfolding x̃
-  tape-x̃1 = field-place (tapeLayout base) 3 t (lit< tt)
+  tape-x̃1 = part 3 (3 * n) (lit< tt) (omega arith)
 
-  pub tape-w̃ : take 32 (drop 128 t) ≡ w̃ base t
+  pub tape-w̃ : take m (drop (4 * n) t) ≡ w̃ S t
   unfolding w̃
-  tape-w̃ = field-place (tapeLayout base) 4 t (lit< tt)
+  tape-w̃ = part 4 (4 * n) (lit< tt) (omega arith)
 
-  pub tape-z0 : take 32 (drop 160 t) ≡ z0 base t
+  pub tape-z0 : take m (drop (4 * n + m) t) ≡ z0 S t
   unfolding z0
-  tape-z0 = field-place (tapeLayout base) 5 t (lit< tt)
+  tape-z0 = part 5 (4 * n + m) (lit< tt) (omega arith)
 
-  pub tape-r0 : take 64 (drop 192 t) ≡ r0 base t
+  pub tape-r0 : take (2 * m) (drop (4 * n + 2 * m) t) ≡ r0 S t
   unfolding r0
-  tape-r0 = field-place (tapeLayout base) 6 t (lit< tt)
+  tape-r0 = part 6 (4 * n + 2 * m) (lit< tt) (omega arith)

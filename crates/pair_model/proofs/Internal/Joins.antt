@@ -12,8 +12,8 @@ use Rattle.linear_model.specs.Trits.{fitTrits, zeroTrits, sumTrit, addTrits}
 use Rattle.linear_model.specs.Products.{planeBytes}
 use Rattle.linear_model.proofs.Vectors.{length-packTrits}
 use Rattle.numbers.specs.Number.{Condition, _when_, first, output}
-use Rattle.pair_model.specs.Base.{base}
-use Rattle.pair_model.specs.Frame.{shareKind, kindOf, bodyOf, frameBytes}
+use Rattle.pair_model.specs.Scheme.{Scheme}
+use Rattle.pair_model.specs.Frame.{shareKind, kindOf, bodyOf, codeBytes, frameBytes}
 use Rattle.pair_model.specs.Header.{Header, headerNumber, refusedWith}
 use Rattle.pair_model.specs.Join.{unfitShare, spareSet, joinConditions, joinNumber, joined}
 use Rattle.numbers.proofs.Numbers.{first-pass, first-holds, first-zero, none-holds, or-left, or-right, is-at-least}
@@ -22,29 +22,42 @@ use Rattle.pair_model.proofs.Internal.Headers.{header-number}
 
 -- ---- one frame
 
--- what a share frame is read to
-abbrev pub shareRead : List ℕ → Header
-shareRead f = headerRead base shareKind shareKind f
+module _ (S : Scheme) where
+  -- what a share frame is read to
+  abbrev pub shareRead : List ℕ → Header
+  shareRead f = headerRead S shareKind shareKind f
 
--- where it is whole it has 28 bytes
-pub share-long : (f : List ℕ) → Whole base shareKind shareKind f → length f ≡ 28
-share-long f w = let k : kindOf f ≡ shareKind = omega arith in w .long ∙ ap (frameBytes base) k
+  -- where it is whole it has the length of its kind
+  pub share-long : (f : List ℕ) → Whole S shareKind shareKind f → length f ≡ frameBytes S shareKind
+  share-long f w = let k : kindOf f ≡ shareKind = omega arith in w .long ∙ ap (frameBytes S) k
 
--- its body, as the code cuts it
-share-body : (f : List ℕ) → length f ≡ 28 → take 22 (drop 6 f) ≡ bodyOf f
-share-body f e = take-all 22 (drop 6 f) (rw length-drop (omega arith))
+  -- its body, as the code cuts it
+  share-body : (f : List ℕ) → length f ≡ frameBytes S shareKind → take (codeBytes S) (drop 6 f) ≡ bodyOf f
+  share-body f e = take-all (codeBytes S) (drop 6 f) (rw length-drop (omega arith))
 
--- the number of its share, as the code judges it
-abbrev pub numberOf : List ℕ → ℕ
-numberOf v = first (10 when not (fitTrits (planeBytes (base .digits)) (base .digits) v) ∷ 11 when not (zeroTrits (planeBytes (base .digits)) (base .digits) v) ∷ [])
+  abbrev p : ℕ
+  p = planeBytes (S .digits)
 
--- the tests of a share, at its length
-module _ (v : List ℕ) (l : length v ≡ 22) {b : Bool} where
-  pub share-fit : b ≡ fitTrits (length v / 2) (min 81 (8 * (length v / 2))) v → not (fitTrits 11 81 v) ≡ not b
-  share-fit e = sym (ap not (e ∙ (λ i. fitTrits (l i / 2) (min 81 (8 * (l i / 2))) v)))
+  -- the number of its share, as the code judges it
+  abbrev pub numberOf : List ℕ → ℕ
+  numberOf v = first (10 when not (fitTrits p (S .digits) v) ∷ 11 when not (zeroTrits p (S .digits) v) ∷ [])
 
-  pub share-clear : b ≡ zeroTrits (length v / 2) 81 v → not (zeroTrits 11 81 v) ≡ not b
-  share-clear e = sym (ap not (e ∙ (λ i. zeroTrits (l i / 2) 81 v)))
+  -- a plane is half of a code
+  half : (v : List ℕ) → length v ≡ codeBytes S → length v / 2 ≡ p
+  half v l = halved (length v) p l
+    where
+      halved : (x y : ℕ) → x ≡ 2 * y → x / 2 ≡ y
+      halved x y e = omega arith
+
+  -- the tests of a share, at its length
+  module _ (v : List ℕ) (l : length v ≡ codeBytes S) {b : Bool} where
+    pub share-fit : b ≡ fitTrits (length v / 2) (min (S .digits) (8 * (length v / 2))) v → not (fitTrits p (S .digits) v) ≡ not b
+    share-fit e =
+        let k : min (S .digits) (8 * p) ≡ S .digits = omega arith in
+        sym (ap not (e ∙ (λ i. fitTrits (half v l i) (min (S .digits) (8 * half v l i)) v) ∙ ap (λ (x : ℕ). fitTrits p x v) k))
+
+    pub share-clear : b ≡ zeroTrits (length v / 2) (S .digits) v → not (zeroTrits p (S .digits) v) ≡ not b
+    share-clear e = sym (ap not (e ∙ (λ i. zeroTrits (half v l i) (S .digits) v)))
 
 -- ---- two frames
 
@@ -71,63 +84,66 @@ module _ (m n : ℕ) (some-m : eqb m 0 ≡ false) (some-n : eqb n 0 ≡ false) (
   lower-first false false false true cs h = refl
   lower-first false false false false cs h = sym (h refl refl)
 
-module _ (f g : List ℕ) where
+module _ (S : Scheme) (f g : List ℕ) where
   -- frames that are refused with neither number are whole
-  both-whole : (refusedWith 3 (shareRead f) || refusedWith 3 (shareRead g)) ≡ false → (refusedWith 4 (shareRead f) || refusedWith 4 (shareRead g)) ≡ false
-      → Whole base shareKind shareKind f × Whole base shareKind shareKind g
+  both-whole : (refusedWith 3 (shareRead S f) || refusedWith 3 (shareRead S g)) ≡ false → (refusedWith 4 (shareRead S f) || refusedWith 4 (shareRead S g)) ≡ false
+      → Whole S shareKind shareKind f × Whole S shareKind shareKind g
   both-whole a b = (
-    whole-read base shareKind shareKind f (or-left (refusedWith 3 (shareRead f)) _ a) (or-left (refusedWith 4 (shareRead f)) _ b),
-    whole-read base shareKind shareKind g (or-right (refusedWith 3 (shareRead f)) _ a) (or-right (refusedWith 4 (shareRead f)) _ b),
+    whole-read S shareKind shareKind f (or-left (refusedWith 3 (shareRead S f)) _ a) (or-left (refusedWith 4 (shareRead S f)) _ b),
+    whole-read S shareKind shareKind g (or-right (refusedWith 3 (shareRead S f)) _ a) (or-right (refusedWith 4 (shareRead S f)) _ b),
   )
 
   -- the conditions of both shares
   abbrev shares : List Condition
-  shares = 10 when (unfitShare base f || unfitShare base g) ∷ 11 when (spareSet base f || spareSet base g) ∷ []
+  shares = 10 when (unfitShare S f || unfitShare S g) ∷ 11 when (spareSet S f || spareSet S g) ∷ []
 
   -- which the code judges one by one
-  pub share-numbers : length f ≡ 28 → length g ≡ 28 → lowerOf (numberOf (take 22 (drop 6 f))) (numberOf (take 22 (drop 6 g))) ≡ first shares
+  pub share-numbers : length f ≡ frameBytes S shareKind → length g ≡ frameBytes S shareKind → lowerOf (numberOf S (take (codeBytes S) (drop 6 f))) (numberOf S (take (codeBytes S) (drop 6 g))) ≡ first shares
   share-numbers p q =
-      (λ i. lowerOf (numberOf (share-body f p i)) (numberOf (share-body g q i)))
-      ∙ lower-first 10 11 refl refl refl refl (unfitShare base f) (spareSet base f) (unfitShare base g) (spareSet base g) [] (λ a b. first-zero [] tt)
+      (λ i. lowerOf (numberOf S (share-body S f p i)) (numberOf S (share-body S g q i)))
+      ∙ lower-first 10 11 refl refl refl refl (unfitShare S f) (spareSet S f) (unfitShare S g) (spareSet S g) [] (λ a b. first-zero [] tt)
 
   module _ (n : ℕ) where
-    pub join-room : n < 22 → 1 ≡ joinNumber base f g n
+    pub join-room : n < codeBytes S → 1 ≡ joinNumber S f g n
     unfolding joinConditions
-    join-room h = sym (first-holds 1 (ltb n 22) _ (lt-ltb n 22 h))
+    join-room h = sym (first-holds 1 (ltb n (codeBytes S)) _ (lt-ltb n (codeBytes S) h))
 
     -- what is accepted has two frames of the stated length and room for the code
     pub record Fits : Type 0 where
-      pub first-length : length f ≡ 28
-      pub second-length : length g ≡ 28
-      pub room : 22 ≤ n
+      pub first-length : length f ≡ frameBytes S shareKind
+      pub second-length : length g ≡ frameBytes S shareKind
+      pub room : codeBytes S ≤ n
 
-    pub join-fits : joinNumber base f g n ≡ 0 → Fits
+    pub join-fits : joinNumber S f g n ≡ 0 → Fits
     unfolding joinConditions
     join-fits e =
-        let t = none-holds (joinConditions base f g n) (lit< tt, (lit< tt, (lit< tt, (lit< tt, (lit< tt, (lit< tt, (lit< tt, tt))))))) e in
+        let t = none-holds (joinConditions S f g n) (lit< tt, (lit< tt, (lit< tt, (lit< tt, (lit< tt, (lit< tt, (lit< tt, tt))))))) e in
         let w = both-whole (t .1 .0) (t .1 .1 .0) in
-        record { first-length = share-long f (w .0); second-length = share-long g (w .1); room = is-at-least n 22 (t .0) }
+        record { first-length = share-long S f (w .0); second-length = share-long S g (w .1); room = is-at-least n (codeBytes S) (t .0) }
 
-    module _ (h : 22 ≤ n) where
+    module _ (h : codeBytes S ≤ n) where
       -- a header is refused
-      pub join-refused : (Whole base shareKind shareKind f → Whole base shareKind shareKind g → ⊥)
-          → lowerOf (headerNumber (shareRead f)) (headerNumber (shareRead g)) ≡ joinNumber base f g n
+      pub join-refused : (Whole S shareKind shareKind f → Whole S shareKind shareKind g → ⊥)
+          → lowerOf (headerNumber (shareRead S f)) (headerNumber (shareRead S g)) ≡ joinNumber S f g n
       unfolding joinConditions
       join-refused x =
-          (λ i. lowerOf (header-number base shareKind shareKind f [] (λ w. first-zero [] tt) i) (header-number base shareKind shareKind g [] (λ w. first-zero [] tt) i))
-          ∙ lower-first 3 4 refl refl refl refl (refusedWith 3 (shareRead f)) (refusedWith 4 (shareRead f)) (refusedWith 3 (shareRead g)) (refusedWith 4 (shareRead g)) _
+          (λ i. lowerOf (header-number S shareKind shareKind f [] (λ w. first-zero [] tt) i) (header-number S shareKind shareKind g [] (λ w. first-zero [] tt) i))
+          ∙ lower-first 3 4 refl refl refl refl (refusedWith 3 (shareRead S f)) (refusedWith 4 (shareRead S f)) (refusedWith 3 (shareRead S g)) (refusedWith 4 (shareRead S g)) _
           (λ a b. let w = both-whole a b in absurd (x (w .0) (w .1)))
-          ∙ sym (first-pass 1 (ltb n 22) _ (le-ltb n 22 h))
+          ∙ sym (first-pass 1 (ltb n (codeBytes S)) _ (le-ltb n (codeBytes S) h))
 
 -- the code, over the front of d
-pub join-written : (f g d o : List ℕ) → length f ≡ 28 → length g ≡ 28 → 22 ≤ length d
-    → o ≡ addTrits (length (take 22 d) / 2) (take 22 (drop 6 f)) (take 22 (drop 6 g)) ++ drop (2 * (length (take 22 d) / 2)) (take 22 d)
-    → o ++ drop 22 d ≡ output 0 (joined base f g) d
+pub join-written : (S : Scheme) (f g d o : List ℕ) → length f ≡ frameBytes S shareKind → length g ≡ frameBytes S shareKind → codeBytes S ≤ length d → let n = codeBytes S in
+    o ≡ addTrits (length (take n d) / 2) (take n (drop 6 f)) (take n (drop 6 g)) ++ drop (2 * (length (take n d) / 2)) (take n d)
+    → o ++ drop n d ≡ output 0 (joined S f g) d
 unfolding output joined addTrits
-join-written f g d o lf lg h e =
-    let l : length (take 22 d) ≡ 22 = length-take-le 22 d h in
-    let c : List ℕ = addTrits 11 (drop 6 f) (drop 6 g) in
+join-written S f g d o lf lg h e =
+    let p = planeBytes (S .digits) in
+    let n = codeBytes S in
+    let l : length (take n d) ≡ n = length-take-le n d h in
+    let q : length (take n d) / 2 ≡ p = half S (take n d) l in
+    let c : List ℕ = addTrits p (drop 6 f) (drop 6 g) in
     let m : o ≡ c =
-    e ∙ (λ i. addTrits (l i / 2) (share-body f lf i) (share-body g lg i) ++ drop (2 * (l i / 2)) (take 22 d))
-    ∙ ap (λ (x : List ℕ). c ++ x) (drop-of-length-le (take 22 d) {i = 22} (omega arith)) ∙ append-nil c in
-    (λ i. m i ++ drop (sym (length-packTrits 11 (sumTrit 11 (drop 6 f) (drop 6 g))) i) d)
+    e ∙ (λ i. addTrits (q i) (share-body S f lf i) (share-body S g lg i) ++ drop (2 * q i) (take n d))
+    ∙ ap (λ (x : List ℕ). c ++ x) (drop-of-length-le (take n d) {i = n} (omega arith)) ∙ append-nil c in
+    (λ i. m i ++ drop (sym (length-packTrits p (sumTrit p (drop 6 f) (drop 6 g))) i) d)

@@ -24,10 +24,11 @@ use Rattle.pair_model.specs.Run.{Inputs, WellFormed}
 use Rattle.pair_model.specs.Internal.Exchange.{padded, Sends, RunFits}
 use Rattle.pair_model.specs.WholeRun.{inputKey, inputLabel, inputTape, inputFile, runCode}
 use Rattle.pair_model.proofs.Internal.Lengths.{length-frame}
+use Rattle.pair_model.proofs.Internal.Deals.{frame-long}
 use Rattle.pair_model.proofs.Theorem.Configurations.{begins-as}
 use Rattle.pair_model.proofs.Theorem.MaskLaws.{openKey, openLabel, mask, bytes-mask}
 use Rattle.pair_model.proofs.Theorem.StepLaws.{step-accepted}
-use Rattle.pair_model.proofs.Theorem.Stages.{parametersAt, openBody, incoming, outgoing, unitAt, accepts-deal, accepts-open, accepts-mask, accepts, bytes-deal}
+use Rattle.pair_model.proofs.Theorem.Stages.{parametersAt, openBody, incoming, outgoing, unitAt, accepts-deal, accepts-open, accepts-mask, accepts}
 use Rattle.pair_model.proofs.Theorem.ShareLaws.{shareFrameOf, joins-to-code}
 use Rattle.pair_model.proofs.Theorem.Main.{base-linear}
 use Rattle.pair_model.proofs.Internal.Runs.{key-0, key-1, label-0, label-1, tape-is}
@@ -166,8 +167,7 @@ module _ (t : List ℕ) (h : Accepted base t) (r : ℕ) (o : List ℕ) (e : r �
   number-0 = e ∙ rw (eq-eqb (length t) 256 (h .bytes .size), is-true (fitTrits 32 256 (r0 base t)) (h .fit))
 
   deal-long : (i : Side) → length (dealFrame base (sharedParameters 1) noFiles t i) ≡ 166
-  unfolding dealFrame
-  deal-long i = length-frame 1 _ (deal base noFiles t i) ∙ ap (λ (k : ℕ). 6 + k) (bytes-deal base noFiles t h i .size)
+  deal-long = frame-long base noFiles t (h .bytes .size) (sharedParameters 1)
 
   whole : o ≡ dealFrame base (sharedParameters 1) noFiles t side0 ++ dealFrame base (sharedParameters 1) noFiles t side1
   unfolding output dealt

@@ -99,7 +99,7 @@ r0-is input =
     ap (take 64) (sym (drop-drop 192 128 input)) ∙ sym (take-take 64 64 (drop 192 (drop 128 input)) (lit≤ tt))
     ∙ ap (take 64) (sym (drop-take 192 64 (drop 128 input)))
     ∙ ap (λ (t : List ℕ). take 64 (drop 192 t)) (tape-is input)
-    ∙ tape-r0 (inputTape base input)
+    ∙ tape-r0 base (inputTape base input)
 
 -- ---- an input that is accepted
 

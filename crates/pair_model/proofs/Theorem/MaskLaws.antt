@@ -14,7 +14,7 @@ use Rattle.linear_model.proofs.Linearity.{matrix-add, conversion}
 use Rattle.pair_model.specs.Scheme.{Files, Scheme, productWith, rowsWith, Linear, Side, side0, side1, sideByte, other, total}
 use Rattle.pair_model.specs.Tape.{K̃, x̃, w̃, z, r, r0}
 use Rattle.pair_model.specs.Evaluator.{codeOf, code}
-use Rattle.pair_model.specs.Unit.{maskOf, shareOf}
+use Rattle.pair_model.specs.Unit.{addIfSide0, maskOf, shareOf}
 use Rattle.pair_model.specs.Run.{Inputs}
 use Rattle.pair_model.specs.Theorem.{SameForFixed}
 use Rattle.pair_model.proofs.Theorem.TapeParts.{partsOf}
@@ -65,6 +65,14 @@ module _ (S : Scheme) (L : Linear S) (lent : Files) where
           ap (λ (p : List ℕ). p +₂ times K̃ x̂ +₂ z) (L .bilinear (S .productReading .content lent) .right K̂ x̃ x̂)
           ∙ last-first (S .innerBytes) (times K̂ x̃) (times K̃ x̂) z (times K̂ x̂)
       pick false = refl
+
+-- only what the product reads of the files matters
+pub same-mask : (S : Scheme) (lent own : Files) → S .productReading .content lent ≡ S .productReading .content own
+    → (side : ℕ) (K̂ x̂ K̃ x̃ z : List ℕ) → maskOf S lent side K̂ x̂ K̃ x̃ z ≡ maskOf S own side K̂ x̂ K̃ x̃ z
+unfolding maskOf
+same-mask S lent own e side K̂ x̂ K̃ x̃ z =
+    let n = S .innerBytes in
+    λ j. addIfSide0 S side (addBits n (addBits n (S .product (e j) K̂ x̃) (S .product (e j) K̃ x̂)) z) (S .product (e j) K̂ x̂)
 
 -- ---- their lengths
 

@@ -13,10 +13,10 @@ use Rattle.linear_model.specs.Products.{planeBytes, matrixProduct}
 use Rattle.linear_model.proofs.Strings.{bytes-add}
 use Rattle.linear_model.proofs.Vectors.{bytes-subtract, fit-subtract}
 use Rattle.numbers.specs.Number.{_when_, first, onlyIf}
-use Rattle.pair_model.specs.Scheme.{Files, faultsIn, readingNumber, Scheme, productWith, Linear, Side, side0, side1, sideByte, other, total, field, concat, layoutBytes}
+use Rattle.pair_model.specs.Scheme.{Files, faultsIn, readingNumber, Scheme, Linear, Side, side0, side1, sideByte, other, total, field, concat, layoutBytes}
 use Rattle.pair_model.specs.Tape.{Accepted, K̃, x̃, z, r, deal, dealLayout}
 use Rattle.pair_model.specs.Frame.{Parameters, parametersOf, dealKind, openKind, maskKind, shareKind, frame, header, bodyBytes, openLayout}
-use Rattle.pair_model.specs.Unit.{State, Secrets, state, begun, done, addIfSide0, maskOf, shareOf, expectedSide, stepReading, leastOutput, Stepped, stepNumber, takeDeal, takeOpen, takeMask, advance, step}
+use Rattle.pair_model.specs.Unit.{State, Secrets, state, begun, done, maskOf, shareOf, expectedSide, stepReading, leastOutput, Stepped, stepNumber, takeDeal, takeOpen, takeMask, advance, step}
 use Rattle.pair_model.specs.Evaluator.{codeOf}
 use Rattle.pair_model.specs.Dealer.{dealFrame}
 use Rattle.pair_model.specs.Run.{Inputs, WellFormed}
@@ -24,7 +24,7 @@ use Rattle.numbers.proofs.Numbers.{is-true, first-end}
 use Rattle.pair_model.proofs.Theorem.Layouts.{Laid, field-concat, bytes-concat}
 use Rattle.pair_model.proofs.Theorem.TapeParts.{whole-parts}
 use Rattle.pair_model.proofs.Theorem.Pairing.{two-planes}
-use Rattle.pair_model.proofs.Theorem.MaskLaws.{openKey, openLabel, mask, share, own-first, bytes-mask}
+use Rattle.pair_model.proofs.Theorem.MaskLaws.{openKey, openLabel, mask, share, own-first, same-mask, bytes-mask}
 use Rattle.pair_model.proofs.Theorem.StepLaws.{accepts-expected, fit-length, fit-faults, same-reading, step-accepted}
 
 module _ (S : Scheme) (a : Inputs) (tape : List ℕ) where
@@ -191,10 +191,6 @@ module _ (S : Scheme) (L : Linear S) (a : Inputs) (tape : List ℕ) (well : Well
       d : (k : ℕ) → field (dealLayout S) k (deal S (a .files) tape i) ≡ getD (K̃ S tape i ∷ x̃ S tape i ∷ z S (a .files) tape i ∷ r S tape i ∷ []) k []
       d = deal-field S (a .files) tape h i
 
-  -- it is the run's product
-  same-product : SameRead 1 → (key label : List ℕ) → productWith S lent key label ≡ productWith S (a .files) key label
-  same-product e key label = ap (λ (c : List ℕ). S .product c key label) e
-
   at-open : SameRead 1 → step S (unitAt S a tape i 1) (incoming S a tape i 1) lent outputLength ≡ accepted 1
   unfolding unitAt incoming outgoing frame header advance takeOpen mask maskOf
   at-open e =
@@ -221,10 +217,8 @@ module _ (S : Scheme) (L : Linear S) (a : Inputs) (tape : List ℕ) (well : Well
           ≡ mask S a tape i
       mask-is =
           (λ j. maskOf S lent (sideByte i) (key j) (label j) (K̃ S tape i) (x̃ S tape i) (z S (a .files) tape i))
-          ∙ (λ j. addIfSide0 S (sideByte i)
-          (addBits (S .innerBytes) (addBits (S .innerBytes) (same-product e (total n (openKey S a tape)) (x̃ S tape i) j)
-          (same-product e (K̃ S tape i) (total n (openLabel S a tape)) j)) (z S (a .files) tape i))
-          (same-product e (total n (openKey S a tape)) (total n (openLabel S a tape)) j))
+          ∙ same-mask S lent (a .files) e (sideByte i) (total n (openKey S a tape)) (total n (openLabel S a tape)) (K̃ S tape i) (x̃ S tape i)
+          (z S (a .files) tape i)
 
   at-mask : SameRead 2 → step S (unitAt S a tape i 2) (incoming S a tape i 2) lent outputLength ≡ accepted 2
   unfolding unitAt incoming outgoing frame header advance takeMask share shareOf codeOf

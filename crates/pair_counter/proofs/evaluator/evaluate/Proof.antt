@@ -15,27 +15,28 @@ use Rattle.pair_model.specs.Scheme.{files}
 use Rattle.pair_model.specs.Base.{base}
 use Rattle.pair_model.specs.Evaluator.{codeOf, code}
 use Rattle.linear_model.proofs.Copies.{copied-first}
-use Rattle.pair_model.proofs.Internal.Evaluations.{key-length, label-length, output-short, file-decides}
+use Rattle.pair_model.proofs.Internal.Evaluations.{key-length, label-length, output-short, rows-decide}
+use Rattle.pair_model.proofs.Internal.Contents.{check-number}
 use Rattle.pair_counter.proofs.evaluator.evaluate.Statement.{statement}
 use Rattle.pair_counter.proofs.evaluator.evaluate.Tie as tie
 
 returns : tie.Need-returns
 unfolding output
-returns c = (key-length _ _ _ _ (c .if1 .taken), refl)
+returns c = (key-length base _ _ _ _ (c .if1 .taken), refl)
 
 returns-2 : tie.Need-returns-2
 unfolding output
-returns-2 c = (label-length _ _ _ _ (c .before .if1 .left) (c .if2 .taken), refl)
+returns-2 c = (label-length base _ _ _ _ (c .before .if1 .left) (c .if2 .taken), refl)
 
 returns-3 : tie.Need-returns-3
 unfolding output
-returns-3 c = (output-short _ _ _ _ (c .before .before .if1 .left) (c .before .if2 .left) (c .if3 .taken), refl)
+returns-3 c = (output-short base _ _ _ _ (c .before .before .if1 .left) (c .before .if2 .left) (c .if3 .taken), refl)
 
 returns-4 : tie.Need-returns-4
 returns-4 c =
     let m = c .before in
     let t = m .before in
-    (m .matrix-check .ensures ∙ file-decides _ _ _ _ (t .before .before .if1 .left) (t .before .if2 .left) (t .if3 .left), output-refused _ _ _ (c .if4 .taken))
+    (m .matrix-check .ensures ∙ check-number _ ∙ rows-decide base _ _ _ _ (t .before .before .if1 .left) refl tt (t .before .if2 .left) (t .if3 .left), output-refused _ _ _ (c .if4 .taken))
 
 returns-5 : tie.Need-returns-5
 unfolding code codeOf
@@ -51,7 +52,7 @@ returns-5 c =
     k .file-product .ensures ∙ product-of-file (a .file .now) _ (fit-length (a .file .now) z)
     ∙ ap (matrixProduct 11 32 81 (rows (a .file .now))) (k .before .inner-vector .ensures) in
     let l : length (k .file-product .result) ≡ 22 = omega arith in (
-      sym z ∙ file-decides _ _ _ _ (t .before .before .if1 .left) (t .before .if2 .left) h,
+      sym z ∙ check-number _ ∙ rows-decide base _ _ _ _ (t .before .before .if1 .left) refl tt (t .before .if2 .left) h,
       copied-first (k .file-product .result) _ (omega arith) (c .before .before .put .ensures) .is
           ∙ ap (λ (s : List ℕ). s ++ drop (length s) (a .out .now)) y
           ∙ output-done 0 (code base (a .key .now) (a .label .now) (files (a .file .now))) (a .out .now) refl,

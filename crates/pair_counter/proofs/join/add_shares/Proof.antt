@@ -2,6 +2,7 @@
 use mathlib.Core.Path.{sym}
 use borrow.Author.Needs.{needs}
 use lib.Seq.{length-take-le}
+use Rattle.pair_model.specs.Base.{base}
 use Rattle.pair_model.proofs.Internal.Joins.{join-written}
 use Rattle.pair_counter.proofs.join.add_shares.Statement.{statement}
 use Rattle.pair_counter.proofs.join.add_shares.Tie as tie
@@ -14,7 +15,7 @@ slice-aggregate-add-trits c =
 returns : tie.Need-returns
 returns c =
     let s = c .before .before .before .before .before .before .before .before .before in
-    join-written _ _ _ _ (s .pre .0) (s .pre .1) (s .pre .2) (c .before .before .add-trits .ensures)
+    join-written base _ _ _ _ (s .pre .0) (s .pre .1) (s .pre .2) (c .before .before .add-trits .ensures)
 
 pub add-shares-spec : {M : Type 1} → statement M
 add-shares-spec =

@@ -3,6 +3,7 @@ use mathlib.Core.Path.{sym, _∙_}
 use borrow.Author.Needs.{needs}
 use borrow.Author.Tests.{ne-eqb}
 use Rattle.numbers.specs.Number.{output}
+use Rattle.pair_model.specs.Base.{base}
 use Rattle.pair_model.proofs.Internal.Joins.{join-fits}
 use Rattle.pair_counter.proofs.join.join.Statement.{statement}
 use Rattle.pair_counter.proofs.join.join.Tie as tie
@@ -13,7 +14,7 @@ returns c = (c .before .join-number .ensures, simp (ne-eqb _ _ (c .if1 .taken)))
 
 add-shares-requires : tie.Need-add-shares-requires
 add-shares-requires c κs =
-    let f = join-fits _ _ _ (sym (c .before .before .join-number .ensures) ∙ c .before .if1 .left) in
+    let f = join-fits base _ _ _ (sym (c .before .before .join-number .ensures) ∙ c .before .if1 .left) in
     (f .first-length, f .second-length, f .room)
 
 returns-2 : tie.Need-returns-2

@@ -19,8 +19,8 @@ use Rattle.pair_counter.proofs.join.join_number.Tie as tie
 
 -- the lower of both refusals
 lowest : (c : tie.After-lower)
-    → c .lower .result ≡ lowerOf (headerNumber (shareRead (c .before .before .before .before .before .before .before .before .args .f .now)))
-    (headerNumber (shareRead (c .before .before .before .before .before .before .before .before .args .g .now)))
+    → c .lower .result ≡ lowerOf (headerNumber (shareRead base (c .before .before .before .before .before .before .before .before .args .f .now)))
+    (headerNumber (shareRead base (c .before .before .before .before .before .before .before .before .args .g .now)))
 lowest c =
     let h = c .before .before in
     let r = h .before .before in
@@ -29,24 +29,24 @@ lowest c =
 
 -- the fields of the first frame, and of the second, where both have been read
 first-read : (c : tie.After-p)
-    → shareRead (c .before .before .before .before .before .before .before .before .before .before .args .f .now)
+    → shareRead base (c .before .before .before .before .before .before .before .before .before .before .args .f .now)
     ≡ fields (c .p .given .0 .0) (c .p .given .0 .1 .0) (c .p .given .0 .1 .1 .0) (c .p .given .0 .1 .1 .1 .0)
 first-read c = sym (c .before .before .before .before .before .before .read-header .ensures) ∙ ap headerOf (c .p .given .1)
 
 second-read : (c : tie.After-q)
-    → shareRead (c .before .before .before .before .before .before .before .before .before .before .before .before .before .args .g .now)
+    → shareRead base (c .before .before .before .before .before .before .before .before .before .before .before .before .before .args .g .now)
     ≡ fields (c .q .given .0 .0) (c .q .given .0 .1 .0) (c .q .given .0 .1 .1 .0) (c .q .given .0 .1 .1 .1 .0)
 second-read c = sym (c .before .before .before .before .before .before .before .before .read-header2 .ensures) ∙ ap headerOf (c .q .given .1)
 
 returns : tie.Need-returns
-returns c = join-room _ _ _ (c .if1 .taken)
+returns c = join-room base _ _ _ (c .if1 .taken)
 
 returns-2 : tie.Need-returns-2
 returns-2 c =
     let l = c .before .before in
     let h = l .before .before .before .before in
     lowest l
-    ∙ join-refused _ _ _ (h .before .if1 .left)
+    ∙ join-refused base _ _ _ (h .before .if1 .left)
     (λ w v. not-whole base shareKind shareKind _ (sym (h .read-header .ensures) ∙ ap headerOf (c .enum-told .given .1)) w)
 
 returns-3 : tie.Need-returns-3
@@ -54,7 +54,7 @@ returns-3 c =
     let l = c .before .before .before .before .before in
     let h = l .before .before .before in
     lowest l
-    ∙ join-refused _ _ _ (h .before .before .if1 .left)
+    ∙ join-refused base _ _ _ (h .before .before .if1 .left)
     (λ w v. not-whole base shareKind shareKind _ (sym (h .read-header2 .ensures) ∙ ap headerOf (c .enum-told2 .given .1)) v)
 
 room : (c : tie.After-p) → codeBytes base ≤ c .before .before .before .before .before .before .before .before .before .before .args .room
@@ -84,8 +84,8 @@ returns-6 c =
     simp (le-ltb _ _ (room p), first-read p, second-read q, eq-eqb _ _ (i .if2 .left), eq-eqb _ _ (c .before .if3 .left), ne-eqb _ _ (c .if4 .taken))
 
 -- a frame whose fields were read has 28 bytes
-long : (f : List ℕ) {kind side session body : ℕ} → shareRead f ≡ fields kind side session body → length f ≡ 28
-long f e = share-long f (fields-whole base shareKind shareKind f e)
+long : (f : List ℕ) {kind side session body : ℕ} → shareRead base f ≡ fields kind side session body → length f ≡ 28
+long f e = share-long base f (fields-whole base shareKind shareKind f e)
 
 part-share-number-end : tie.Need-part-share-number-end
 part-share-number-end c = omega (arith, long _ (first-read (c .before .before .before .before .before .before .before)))
@@ -102,7 +102,7 @@ returns-7 c =
     let p = q .before .before .before in
     let a = p .before .before .before .before .before .before .before .before .before .before .args in
     c .lower2 .ensures ∙ (λ k. lowerOf (c .before .before .before .share-number .ensures k) (c .before .share-number2 .ensures k))
-    ∙ share-numbers (a .f .now) (a .g .now) (long _ (first-read p)) (long _ (second-read q))
+    ∙ share-numbers base (a .f .now) (a .g .now) (long _ (first-read p)) (long _ (second-read q))
     ∙ simp (le-ltb _ _ (room p), first-read p, second-read q, eq-eqb _ _ (i .if2 .left), eq-eqb _ _ (j .before .if3 .left), eq-eqb _ _ (j .if4 .left))
 
 pub join-number-spec : {M : Type 1} → statement M

@@ -3,6 +3,7 @@ use mathlib.Core.Path.{ap, _∙_}
 use mathlib.Core.Bool.{not}
 use borrow.Author.Needs.{needs}
 use Rattle.numbers.specs.Number.{first}
+use Rattle.pair_model.specs.Base.{base}
 use Rattle.pair_model.proofs.Internal.Joins.{share-fit, share-clear}
 use Rattle.pair_counter.proofs.join.share_number.Statement.{statement}
 use Rattle.pair_counter.proofs.join.share_number.Tie as tie
@@ -12,7 +13,7 @@ unfolding first
 returns c =
     let f = c .before .before in
     let s = f .before .before in
-    simp (share-fit (s .args .v .now) (s .pre) (f .trits-fit .ensures) ∙ c .if1 .taken)
+    simp (share-fit base (s .args .v .now) (s .pre) (f .trits-fit .ensures) ∙ c .if1 .taken)
 
 returns-2 : tie.Need-returns-2
 unfolding first
@@ -21,8 +22,8 @@ returns-2 c =
     let f = l .before in
     let s = f .before .before in
     simp (
-      share-fit (s .args .v .now) (s .pre) (f .trits-fit .ensures) ∙ c .before .if1 .left,
-      share-clear (s .args .v .now) (s .pre) (l .spare-bits-clear .ensures) ∙ ap not (c .if2 .taken),
+      share-fit base (s .args .v .now) (s .pre) (f .trits-fit .ensures) ∙ c .before .if1 .left,
+      share-clear base (s .args .v .now) (s .pre) (l .spare-bits-clear .ensures) ∙ ap not (c .if2 .taken),
     )
 
 returns-3 : tie.Need-returns-3
@@ -32,8 +33,8 @@ returns-3 c =
     let f = l .before in
     let s = f .before .before in
     simp (
-      share-fit (s .args .v .now) (s .pre) (f .trits-fit .ensures) ∙ c .before .if1 .left,
-      share-clear (s .args .v .now) (s .pre) (l .spare-bits-clear .ensures) ∙ ap not (c .if2 .left),
+      share-fit base (s .args .v .now) (s .pre) (f .trits-fit .ensures) ∙ c .before .if1 .left,
+      share-clear base (s .args .v .now) (s .pre) (l .spare-bits-clear .ensures) ∙ ap not (c .if2 .left),
     )
 
 pub share-number-spec : {M : Type 1} → statement M

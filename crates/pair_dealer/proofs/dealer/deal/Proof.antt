@@ -18,7 +18,7 @@ write-deal-requires : tie.Need-write-deal-requires
 write-deal-requires c κs =
     let n = c .before .before in
     let a = n .before .before .before .args in
-    let f = deal-fits _ (a .tape .now) _ (sym (n .deal-number .ensures) ∙ c .before .if1 .left) in
+    let f = deal-fits base _ (a .tape .now) _ (sym (n .deal-number .ensures) ∙ c .before .if1 .left) in
     (f .tape-length, f .room)
 
 returns-2 : tie.Need-returns-2

@@ -3,6 +3,7 @@ use mathlib.Core.Path.{sym}
 use borrow.Author.Needs.{needs}
 use borrow.Author.Tests.{lt-ltb, le-ltb, eq-eqb, ne-eqb}
 use Rattle.numbers.specs.Number.{first, merge}
+use Rattle.pair_model.specs.Base.{base}
 use Rattle.pair_model.specs.Dealer.{dealConditions}
 use Rattle.pair_model.proofs.Internal.Deals.{fit-r0}
 use Rattle.pair_dealer.proofs.dealer.deal_number.Statement.{statement}
@@ -22,7 +23,7 @@ returns-3 c =
     let r = c .before .before .before in
     let l = r .before .if1 .left in
     let t = r .before .before .before .args .tape .now in
-    simp (eq-eqb _ _ l, le-ltb _ _ (r .if2 .left), sym (fit-r0 t l), sym (c .before .trits-fit .ensures), c .if3 .taken)
+    simp (eq-eqb _ _ l, le-ltb _ _ (r .if2 .left), sym (fit-r0 base t l), sym (c .before .trits-fit .ensures), c .if3 .taken)
 
 returns-4 : tie.Need-returns-4
 unfolding first merge dealConditions
@@ -30,7 +31,7 @@ returns-4 c =
     let r = c .before .before .before in
     let l = r .before .if1 .left in
     let t = r .before .before .before .args .tape .now in
-    simp (eq-eqb _ _ l, le-ltb _ _ (r .if2 .left), sym (fit-r0 t l), sym (c .before .trits-fit .ensures), c .if3 .left)
+    simp (eq-eqb _ _ l, le-ltb _ _ (r .if2 .left), sym (fit-r0 base t l), sym (c .before .trits-fit .ensures), c .if3 .left)
 
 pub deal-number-spec : {M : Type 1} → statement M
 deal-number-spec =

@@ -1,5 +1,5 @@
 -- `pair_dealer::dealer::deal_source` meets its contract: the sampler's number, and the deal of its tape.
-use mathlib.Core.Path.{sym, ap, _∙_}
+use mathlib.Core.Path.{refl, sym, ap, _∙_}
 use mathlib.Core.List.{List}
 use Prim.Native.Nat.{ℕ}
 use borrow.Author.Needs.{needs}
@@ -20,7 +20,7 @@ returns : tie.Need-returns
 unfolding output reported
 returns c =
     let r = c .refused .ensures in
-    (r .0 ∙ source-room _ _ _ (c .before .if1 .taken), (rw (r .0, r .1), (rw (r .0), base-demand3 .privacy)))
+    (r .0 ∙ source-room base _ _ _ (c .before .if1 .taken), (rw (r .0, r .1), (rw (r .0), base-demand3 .privacy)))
 
 returns-2 : tie.Need-returns-2
 unfolding output reported
@@ -28,7 +28,7 @@ returns-2 c =
     let s = c .before .before .before .before in
     let r = c .refused2 .ensures in
     let n = ne-eqb _ _ (λ e. c .before .if2 .taken (sym (r .0) ∙ e)) in
-    (r .0 ∙ s .sample .ensures .0 ∙ source-number _ _ _ (s .before .before .if1 .left), (simp (n, r .1), (simp n, base-demand3 .privacy)))
+    (r .0 ∙ s .sample .ensures .0 ∙ source-number base _ _ _ refl tt (s .before .before .if1 .left), (simp (n, r .1), (simp n, base-demand3 .privacy)))
 
 returns-3 : tie.Need-returns-3
 returns-3 c =
@@ -38,8 +38,8 @@ returns-3 c =
     let a = s .before .before .before .before .before .args in
     let n = s .sample .ensures in
     let e = z .if2 .left in
-    let t = n .1 .1 ∙ ap (λ (k : ℕ). output k (sampled base (a .source .now)) (zeros 256)) e ∙ sampled-whole (a .source .now) (sym (n .0) ∙ e) in (
-      sym e ∙ n .0 ∙ source-number _ _ _ (s .before .before .if1 .left),
+    let t = n .1 .1 ∙ ap (λ (k : ℕ). output k (sampled base (a .source .now)) (zeros 256)) e ∙ sampled-whole base (a .source .now) (sym (n .0) ∙ e) in (
+      sym e ∙ n .0 ∙ source-number base _ _ _ refl tt (s .before .before .if1 .left),
       (
         n .1 .0 ∙ ap (λ (k : ℕ). reported k (used base (a .source .now))) e,
         (w .write-deal .ensures ∙ ap (λ (x : List ℕ). output 0 (dealt base (sharedParameters (a .session)) noFiles x) (a .out .now)) t, base-demand3 .privacy),

@@ -6,6 +6,7 @@ use native.Mathlib.Omega.{arith}
 use borrow.Author.Needs.{needs}
 use lib.ListN.{length, drop}
 use Rattle.pair_model.specs.Scheme.{concat}
+use Rattle.pair_model.specs.Base.{base}
 use Rattle.pair_model.specs.Tape.{z, r, deal}
 use Rattle.pair_model.specs.Frame.{parameters, dealKind, frame}
 use Rattle.pair_model.specs.Dealer.{dealFrame}
@@ -19,7 +20,7 @@ returns c =
     let d = c .before .before .before .before .before in
     let a = c .before .before .before .before .before .before .before .before .before .before .before .before .args in
     let t = a .tape .now in
-    let body = d .deal-body .ensures ∙ (λ i. concat (tape-K̃0 t i ∷ tape-x̃0 t i ∷ tape-z0 t i ∷ tape-r0 t i ∷ [])) in
+    let body = d .deal-body .ensures ∙ (λ i. concat (tape-K̃0 base t i ∷ tape-x̃0 base t i ∷ tape-z0 base t i ∷ tape-r0 base t i ∷ [])) in
     let long : length (d .deal-body .result) ≡ 160 = omega arith in
     c .before .before .write-frame .ensures ∙ (λ i. frame dealKind (parameters 0 (a .session)) (body i) ++ drop (6 + long i) (a .out .now))
 

@@ -6,6 +6,7 @@ use native.Mathlib.Omega.{arith}
 use borrow.Author.Needs.{needs}
 use lib.ListN.{length, drop}
 use Rattle.pair_model.specs.Scheme.{concat}
+use Rattle.pair_model.specs.Base.{base}
 use Rattle.pair_model.specs.Tape.{deal}
 use Rattle.pair_model.specs.Frame.{parameters, dealKind, frame}
 use Rattle.pair_model.specs.Dealer.{dealFrame}
@@ -20,7 +21,7 @@ returns c =
     let a = c .before .before .before .before .before .before .before .before .before .before .before .before .before .before .args in
     let t = a .tape .now in
     let r = d .before .before .before .before .before in
-    let body = d .deal-body .ensures ∙ (λ i. concat (tape-K̃1 t i ∷ tape-x̃1 t i ∷ r .before .second-z .ensures i ∷ r .second-r .ensures i ∷ [])) in
+    let body = d .deal-body .ensures ∙ (λ i. concat (tape-K̃1 base t i ∷ tape-x̃1 base t i ∷ r .before .second-z .ensures i ∷ r .second-r .ensures i ∷ [])) in
     let long : length (d .deal-body .result) ≡ 160 = omega arith in
     c .before .before .write-frame .ensures ∙ (λ i. frame dealKind (parameters 1 (a .session)) (body i) ++ drop (6 + long i) (a .out .now))
 

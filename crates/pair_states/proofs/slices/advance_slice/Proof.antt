@@ -43,8 +43,8 @@ returns c =
     let b = bodyOf (a .f .now) in
     let v = c .before .before .before .before .before .before .take-deal .ensures in
     let d : stateOf (c .before .before .before .before .before .before .before .before .decode .result) ≡ decodeState base s = ap stateOf (c .before .before .before .before .before .before .before .before .decode .ensures) in
-    let e = sym (advance-deal (decodeState base s) b (files (a .file .now)) (waits s (c .before .before .before .before .before .before .before .before .before .before .if1 .taken))) in (
-      deal-length (decodeState base s) b ∙ ap (λ (t : Stepped). length (t .written)) e,
+    let e = sym (advance-deal base (decodeState base s) b (files (a .file .now)) (waits s (c .before .before .before .before .before .before .before .before .before .before .if1 .taken))) in (
+      deal-length base (decodeState base s) b ∙ ap (λ (t : Stepped). length (t .written)) e,
       (
         c .before .before .encode .ensures ∙ ap (λ (u : UnitState). encodeState (stateOf u)) (v .0)
             ∙ ap (λ (u : State). encodeState (takeDeal base u b .next)) d ∙ ap (λ (t : Stepped). encodeState (t .next)) e,

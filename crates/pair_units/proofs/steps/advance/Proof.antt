@@ -1,11 +1,11 @@
 -- `pair_units::steps::advance` meets its contract: by what the unit waits for.
-use mathlib.Core.Path.{_≡_, sym, ap, _∙_, subst}
+use mathlib.Core.Path.{_≡_, refl, sym, ap, _∙_, subst}
 use Prim.Native.Nat.{ℕ}
 use native.Mathlib.Omega.{arith}
 use borrow.Author.Needs.{needs}
 use lib.ListN.{length}
 use Rattle.numbers.specs.Number.{atFront}
-use Rattle.pair_model.specs.Scheme.{files}
+use Rattle.pair_model.specs.Scheme.{files, noFiles}
 use Rattle.pair_model.specs.Base.{base}
 use Rattle.pair_model.specs.Frame.{parameters, frameBytes, bodyOf}
 use Rattle.pair_model.specs.Unit.{Stepped, stepReading}
@@ -28,9 +28,9 @@ returns c =
     let a = c .before .before .before .before .before .before .before .before .args in
     let u = stateOf (a .u) in
     let b = bodyOf (a .f .now) in
-    let e = sym (advance-deal u b (files (a .file .now)) (c .before .before .before .before .if1 .taken)) in
+    let e = sym (advance-deal base u b (files (a .file .now)) (c .before .before .before .before .if1 .taken)) in
     let t = c .before .before .take-deal .ensures in (
-      deal-length u b ∙ ap (λ (s : Stepped). length (s .written)) e,
+      deal-length base u b ∙ ap (λ (s : Stepped). length (s .written)) e,
       (t .0 ∙ ap (λ (s : Stepped). unitOf (s .next)) e, t .1 ∙ ap (λ (s : Stepped). atFront (s .written) (a .out .now)) e),
     )
 
@@ -46,9 +46,9 @@ returns-2 c =
     let a = c .before .before .before .before .before .before .before .before .before .args in
     let u = stateOf (a .u) in
     let b = bodyOf (a .f .now) in
-    let e = sym (advance-open u b (files (a .file .now)) (c .before .before .before .before .if2 .taken)) in
+    let e = sym (advance-open base u b (files (a .file .now)) noFiles refl (c .before .before .before .before .if2 .taken)) in
     let t = c .before .before .take-open .ensures in (
-      open-length u b _ ∙ ap (λ (s : Stepped). length (s .written)) e,
+      open-length base u b _ ∙ ap (λ (s : Stepped). length (s .written)) e,
       (t .0 ∙ ap (λ (s : Stepped). unitOf (s .next)) e, t .1 ∙ ap (λ (s : Stepped). atFront (s .written) (a .out .now)) e),
     )
 
@@ -68,9 +68,9 @@ returns-3 c =
     let b = bodyOf (a .f .now) in
     let h = fits base (u .parameters) (u .stage) (a .f .now) (files (a .file .now)) (length (a .out .now)) (s .pre) in
     let m : u .stage ≡ 3 = omega (arith, h .low, h .high) in
-    let e = sym (advance-mask u b (files (a .file .now)) m) in
+    let e = sym (advance-mask base u b (files (a .file .now)) m) in
     let t = c .before .before .take-mask .ensures in (
-      share-length u b (files (a .file .now)) ∙ ap (λ (s : Stepped). length (s .written)) e,
+      share-length base u b (files (a .file .now)) ∙ ap (λ (s : Stepped). length (s .written)) e,
       (t .0 ∙ ap (λ (s : Stepped). unitOf (s .next)) e, t .1 ∙ ap (λ (s : Stepped). atFront (s .written) (a .out .now)) e),
     )
 

@@ -35,7 +35,7 @@ returns c =
         ownMask = zeros 32;
       }))),
       c .before .before .write-open-frame .ensures ∙ (λ i. frame openKind p (concat (key i ∷ label i ∷ [])) ++ drop (frameBytes base openKind) o)
-          ∙ ap (λ (n : ℕ). takeDeal base (stateOf u) (bodyOf (a .f .now)) .written ++ drop n o) (deal-length (stateOf u) (bodyOf (a .f .now))),
+          ∙ ap (λ (n : ℕ). takeDeal base (stateOf u) (bodyOf (a .f .now)) .written ++ drop n o) (deal-length base (stateOf u) (bodyOf (a .f .now))),
     )
 
 pub take-deal-spec : {M : Type 1} → statement M

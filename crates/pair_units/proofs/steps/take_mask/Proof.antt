@@ -41,7 +41,7 @@ returns c =
     let long : length (p .file-product .result) ≡ 22 = omega arith in (
       c .cleared .ensures,
       w .write-frame .ensures ∙ (λ j. frame shareKind (s .parameters) (share j) ++ drop (6 + long j) o)
-          ∙ ap (λ (n : ℕ). takeMask base s b (files (a .file .now)) .written ++ drop n o) (share-length s b (files (a .file .now))),
+          ∙ ap (λ (n : ℕ). takeMask base s b (files (a .file .now)) .written ++ drop n o) (share-length base s b (files (a .file .now))),
     )
 
 pub take-mask-spec : {M : Type 1} → statement M

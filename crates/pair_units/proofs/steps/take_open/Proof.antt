@@ -33,7 +33,7 @@ returns c =
     let long : length (m .mask-of .result) ≡ 32 = omega arith in (
       (λ i. unitOf (withMask base s (ŵi i))),
       c .before .before .write-frame .ensures ∙ (λ i. frame maskKind (s .parameters) (ŵi i) ++ drop (6 + long i) o)
-          ∙ ap (λ (n : ℕ). takeOpen base s b noFiles .written ++ drop n o) (open-length s b noFiles),
+          ∙ ap (λ (n : ℕ). takeOpen base s b noFiles .written ++ drop n o) (open-length base s b noFiles),
     )
 
 pub take-open-spec : {M : Type 1} → statement M

@@ -20,7 +20,7 @@ returns c =
     let u = stateOf (a .u) in
     let b = bodyOf (take (frameBytes base maskKind) (a .t2)) in
     c .before .take-mask .ensures .1
-    ∙ ap (λ (n : ℕ). takeMask base u b (files (a .file .now)) .written ++ drop n (zeros (frameBytes base shareKind))) (sym (share-length u b (files (a .file .now))))
+    ∙ ap (λ (n : ℕ). takeMask base u b (files (a .file .now)) .written ++ drop n (zeros (frameBytes base shareKind))) (sym (share-length base u b (files (a .file .now))))
     ∙ append-nil _
 
 pub share-frame-spec : {M : Type 1} → statement M
