@@ -4,7 +4,7 @@ use mathlib.Core.List.{List}
 use Rattle.linear_model.specs.Products.{circulantProduct}
 use Rattle.numbers.specs.Number.{Condition}
 use Rattle.matrix_model.specs.File.{fileBytes, faults, rows}
-use Rattle.pair_model.specs.Scheme.{Files, Reading, readsNothing, Scheme}
+use Rattle.pair_model.specs.Scheme.{Reading, readsNothing, Scheme}
 
 -- all of the matrix file, of this length and with these faults
 abbrev pub matrixReading : ℕ → (List ℕ → List Condition) → Reading
@@ -23,5 +23,6 @@ circulantScheme n t reading rows =
       rows = rows;
     }
 
+-- document 01's
 abbrev pub base : Scheme
 base = circulantScheme 32 81 (matrixReading fileBytes faults) rows

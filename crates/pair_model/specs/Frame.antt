@@ -23,6 +23,7 @@ shareKind = 4
 pub record SharedParameters : Type 0 where
   pub session : ℕ
 
+-- those with this session
 abbrev pub sharedParameters : ℕ → SharedParameters
 sharedParameters session = record { session = session }
 
@@ -31,6 +32,7 @@ pub record Parameters : Type 0 where
   pub side : ℕ
   pub shared : SharedParameters
 
+-- those of this side and session
 abbrev pub parameters : ℕ → ℕ → Parameters
 parameters side session = record { side = side; shared = sharedParameters session }
 

@@ -14,6 +14,7 @@ use Rattle.numbers.specs.Number.{Condition, _when_, first}
 pub record Files : Type 0 where
   pub matrix : List ℕ
 
+-- a matrix file alone
 abbrev pub files : List ℕ → Files
 files matrix = record { matrix = matrix }
 
@@ -27,6 +28,7 @@ pub record Reading : Type 0 where
   pub bytes : ℕ
   pub faults : List ℕ → List Condition
 
+-- no file
 abbrev pub readsNothing : Reading
 readsNothing = record { content = λ lent. []; bytes = 0; faults = λ content. [] }
 

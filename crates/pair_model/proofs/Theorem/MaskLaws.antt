@@ -62,7 +62,7 @@ module _ (S : Scheme) (L : Linear S) (lent : Files) where
           → times K̂ (cond b (addBits (S .keyBytes) x̃ x̂) x̃) +₂ times K̃ x̂ +₂ z
           ≡ cond b (times K̂ x̃ +₂ times K̃ x̂ +₂ z +₂ times K̂ x̂) (times K̂ x̃ +₂ times K̃ x̂ +₂ z)
       pick true =
-          ap (λ (p : List ℕ). p +₂ times K̃ x̂ +₂ z) (L .bilinear (S .productReading .content lent) .right K̂ x̃ x̂)
+          ap (λ (p : List ℕ). p +₂ times K̃ x̂ +₂ z) (L .bilinear _ .right K̂ x̃ x̂)
           ∙ last-first (S .innerBytes) (times K̂ x̃) (times K̃ x̂) z (times K̂ x̂)
       pick false = refl
 
@@ -104,7 +104,7 @@ module _ (S : Scheme) (L : Linear S) (a : Inputs) (tape : List ℕ) where
 
   linear : Bilinear (S .innerBytes) (S .keyBytes) P
   unfolding P
-  linear = L .bilinear (S .productReading .content (a .files))
+  linear = L .bilinear _
 
   abbrev sum : (Side → List ℕ) → List ℕ
   sum f = total (S .keyBytes) f

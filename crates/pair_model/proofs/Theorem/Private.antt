@@ -4,7 +4,7 @@ use mathlib.Core.Path.{_≡_, refl, sym, _∙_, subst, subst₂}
 use mathlib.Core.Logic.{_≢_}
 use mathlib.Core.List.{List, [], _∷_}
 use Rattle.linear_model.specs.Bits.{zeros}
-use Rattle.pair_model.specs.Scheme.{Files, Scheme, Linear, Side, side0, side1, sideByte, other, concat}
+use Rattle.pair_model.specs.Scheme.{Files, Scheme, Linear, Side, side0, side1, other, concat}
 use Rattle.pair_model.specs.Tape.{Accepted, deal}
 use Rattle.pair_model.specs.Frame.{parametersOf, dealKind, openKind, maskKind, frame}
 use Rattle.pair_model.specs.Unit.{State, state, begun, begin, done, step, stepNumber}
