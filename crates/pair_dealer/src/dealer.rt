@@ -1,131 +1,46 @@
 // The dealer: both deal frames, of a tape or of source bytes. No branch depends on a tape's bytes but the test of r0.
 ghost use mathlib.Core.Path.{_≡_};
-ghost use mathlib.Core.List.{_++_};
 ghost use Prim.Native.Nat.{_≤_};
-ghost use lib.ListN.{length, drop};
+ghost use lib.ListN.{length};
 ghost use Rattle.numbers.specs.Number.{output, reported};
-ghost use Rattle.pair_model.specs.Scheme.{noFiles, side0, side1};
+ghost use Rattle.pair_model.specs.Scheme.{noFiles};
 ghost use Rattle.pair_model.specs.Base.{base};
-ghost use Rattle.pair_model.specs.Tape.{tapeBytes, z, r};
-ghost use Rattle.pair_model.specs.Frame.{sharedParameters, dealKind, frameBytes};
+ghost use Rattle.pair_model.specs.Frame.{sharedParameters};
 ghost use Rattle.pair_model.specs.Sampler.{sampled, used};
-ghost use Rattle.pair_model.specs.Dealer.{dealFrame, dealt, dealtBytes, dealNumber, dealSourceNumber, TakesAccepted};
+ghost use Rattle.pair_model.specs.Dealer.{dealt, dealNumber, dealSourceNumber, TakesAccepted};
 ghost use Rattle.pair_model.specs.Run.{protocol};
 ghost use Rattle.pair_model.specs.Theorem.{Privacy};
-use linear::trits::subtract_trits;
+ghost use Rattle.pair_sampler.specs.Sized.{sized};
+use crate::frames::write_deal;
 use linear::trits::trits_fit;
 use numbers::table::DONE;
 use numbers::table::UNFIT_TRIT;
 use numbers::table::WRONG_LENGTH;
-use pair_frames::bytes::array_32;
-use pair_frames::bytes::product_32;
-use pair_frames::bytes::sum_32;
-use pair_frames::fields::deal_body;
-use pair_frames::frame::DEAL;
-use pair_frames::frame::write_frame;
-use pair_frames::sizes::DEAL_FRAME_BYTES;
 use pair_frames::sizes::DEALT_BYTES;
+use pair_frames::sizes::HEADER_BYTES;
 use pair_frames::sizes::INNER_BYTES;
-use pair_frames::sizes::INNER_TRITS;
+use pair_frames::sizes::KEY_BYTES;
 use pair_frames::sizes::TAPE_BYTES;
-use pair_frames::sizes::TAPE_INNER_MASK;
-use pair_frames::sizes::TAPE_KEY_MASK_0;
-use pair_frames::sizes::TAPE_KEY_MASK_1;
-use pair_frames::sizes::TAPE_LABEL_MASK_0;
-use pair_frames::sizes::TAPE_LABEL_MASK_1;
-use pair_frames::sizes::TAPE_R;
-use pair_frames::sizes::TAPE_Z;
-use pair_frames::sizes::TRITS_BYTES;
 use pair_sampler::sampler::sample;
 
-// The number of a deal.
-fn deal_number(tape: &[u8], room: usize) -> u32
-    ensures { λ n. ⌜ n ≡ dealNumber base noFiles (now (tape .entry)) room ⌝ }
+// The number of a deal of keys and inner strings of so many bytes.
+fn deal_number(key_bytes: usize, inner_bytes: usize, tape: &[u8], room: usize) -> u32
+    requires { ⌜ («key_bytes» ≤ 64) × («inner_bytes» ≤ 64) ⌝ }
+    ensures { λ n. ⌜ n ≡ dealNumber (sized «key_bytes» «inner_bytes») noFiles (now (tape .entry)) room ⌝ }
 {
-    if tape.len() != TAPE_BYTES {
+    let first_r = 4 * key_bytes + 2 * inner_bytes;
+    let end = first_r + 2 * inner_bytes;
+    if tape.len() != end {
         return WRONG_LENGTH;
     }
-    if room < DEALT_BYTES {
+    if room < 2 * (HEADER_BYTES + 2 * key_bytes + 3 * inner_bytes) {
         return WRONG_LENGTH;
     }
-    if trits_fit(&tape[TAPE_R..TAPE_BYTES], INNER_TRITS) {
+    if trits_fit(&tape[first_r..end], 8 * inner_bytes) {
         DONE
     } else {
         UNFIT_TRIT
     }
-}
-
-// z1 = z0 + K̃ × x̃ + w̃ modulo 2.
-fn second_z(tape: &[u8]) -> [u8; INNER_BYTES]
-    requires { ⌜ length (now tape) ≡ tapeBytes base ⌝ }
-    ensures { λ s. ⌜ s ≡ z base noFiles (now (tape .entry)) side1 ⌝ }
-{
-    let key_mask = sum_32(
-        array_32(tape, TAPE_KEY_MASK_0),
-        array_32(tape, TAPE_KEY_MASK_1),
-    );
-    let label_mask = sum_32(
-        array_32(tape, TAPE_LABEL_MASK_0),
-        array_32(tape, TAPE_LABEL_MASK_1),
-    );
-    let product = product_32(key_mask, label_mask);
-    sum_32(
-        sum_32(array_32(tape, TAPE_Z), product),
-        array_32(tape, TAPE_INNER_MASK),
-    )
-}
-
-// r1 = w̃ − r0 modulo 3.
-fn second_r(tape: &[u8]) -> [u8; TRITS_BYTES]
-    requires { ⌜ length (now tape) ≡ tapeBytes base ⌝ }
-    ensures { λ s. ⌜ s ≡ r base (now (tape .entry)) side1 ⌝ }
-{
-    let mut difference = [0u8; TRITS_BYTES];
-    subtract_trits(
-        &tape[TAPE_INNER_MASK..TAPE_Z],
-        &tape[TAPE_R..TAPE_BYTES],
-        &mut difference,
-    );
-    difference
-}
-
-// Writes unit 0's deal frame: K̃0, x̃0, z0, r0.
-fn write_first(session: u32, tape: &[u8], out: &mut [u8])
-    requires { ⌜ (length (now tape) ≡ tapeBytes base) × (frameBytes base dealKind ≤ length (now out)) ⌝ }
-    ensures { λ _. ⌜ now (out .exit) ≡ dealFrame base (sharedParameters session) noFiles (now (tape .entry)) side0 ++ drop (frameBytes base dealKind) (now (out .entry)) ⌝ }
-{
-    let body = deal_body(
-        &tape[TAPE_KEY_MASK_0..TAPE_KEY_MASK_1],
-        &tape[TAPE_LABEL_MASK_0..TAPE_LABEL_MASK_1],
-        &tape[TAPE_Z..TAPE_R],
-        &tape[TAPE_R..TAPE_BYTES],
-    );
-    write_frame(DEAL, 0, session, &body, out);
-}
-
-// Writes unit 1's deal frame: K̃1, x̃1, z1, r1.
-fn write_second(session: u32, tape: &[u8], out: &mut [u8])
-    requires { ⌜ (length (now tape) ≡ tapeBytes base) × (frameBytes base dealKind ≤ length (now out)) ⌝ }
-    ensures { λ _. ⌜ now (out .exit) ≡ dealFrame base (sharedParameters session) noFiles (now (tape .entry)) side1 ++ drop (frameBytes base dealKind) (now (out .entry)) ⌝ }
-{
-    let z = second_z(tape);
-    let r = second_r(tape);
-    let body = deal_body(
-        &tape[TAPE_KEY_MASK_1..TAPE_LABEL_MASK_0],
-        &tape[TAPE_LABEL_MASK_1..TAPE_INNER_MASK],
-        &z,
-        &r,
-    );
-    write_frame(DEAL, 1, session, &body, out);
-}
-
-// Writes both deal frames, unit 0's first.
-fn write_deal(session: u32, tape: &[u8], out: &mut [u8])
-    requires { ⌜ (length (now tape) ≡ tapeBytes base) × (dealtBytes base ≤ length (now out)) ⌝ }
-    ensures { λ _. ⌜ now (out .exit) ≡ output 0 (dealt base (sharedParameters session) noFiles (now (tape .entry))) (now (out .entry)) ⌝ }
-{
-    write_first(session, tape, out);
-    write_second(session, tape, &mut out[DEAL_FRAME_BYTES..]);
 }
 
 // Deals a tape: the accepted ones and no other. Its frames stand in the views that `Privacy` speaks of, one pairing of accepted tapes
@@ -136,11 +51,11 @@ pub fn deal(session: u32, tape: &[u8], out: &mut [u8]) -> u32
     ensures accepted_tapes { λ _. ⌜ TakesAccepted base ⌝ }
     ensures privacy { λ _. ⌜ Privacy (protocol base) ⌝ }
 {
-    let number = deal_number(tape, out.len());
+    let number = deal_number(KEY_BYTES, INNER_BYTES, tape, out.len());
     if number != DONE {
         return number;
     }
-    write_deal(session, tape, out);
+    write_deal(KEY_BYTES, INNER_BYTES, session, tape, out);
     DONE
 }
 
@@ -175,7 +90,7 @@ pub fn deal_source(session: u32, source: &[u8], out: &mut [u8]) -> Dealt
     if s.result != DONE {
         return refused(s.result);
     }
-    write_deal(session, &tape, out);
+    write_deal(KEY_BYTES, INNER_BYTES, session, &tape, out);
     Dealt {
         result: DONE,
         used: s.used,

@@ -1,2 +1,3 @@
 // The dealer: both deal frames.
 pub mod dealer;
+pub mod frames;

@@ -1,6 +1,7 @@
 -- `pair_dealer::dealer::deal` meets its contract: what is accepted has a tape of 256 bytes and room for both frames.
 use mathlib.Core.Path.{sym, _∙_}
 use borrow.Author.Needs.{needs}
+use lib.Dec.{lit≤}
 use borrow.Author.Tests.{ne-eqb}
 use Rattle.numbers.specs.Number.{output}
 use Rattle.pair_model.specs.Base.{base}
@@ -19,7 +20,7 @@ write-deal-requires c κs =
     let n = c .before .before in
     let a = n .before .before .before .args in
     let f = deal-fits base _ (a .tape .now) _ (sym (n .deal-number .ensures) ∙ c .before .if1 .left) in
-    (f .tape-length, f .room)
+    (lit≤ tt, f .tape-length, f .room)
 
 returns-2 : tie.Need-returns-2
 returns-2 c =
