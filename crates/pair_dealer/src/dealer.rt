@@ -11,11 +11,11 @@ ghost use Rattle.pair_model.specs.Dealer.{dealt, dealNumber, dealSourceNumber, 
 ghost use Rattle.pair_model.specs.Run.{protocol};
 ghost use Rattle.pair_model.specs.Theorem.{Privacy};
 ghost use Rattle.pair_sampler.specs.Sized.{sized};
-use crate::frames::write_deal;
 use linear::trits::trits_fit;
 use numbers::table::DONE;
 use numbers::table::UNFIT_TRIT;
 use numbers::table::WRONG_LENGTH;
+use pair_deals::frames::write_deal;
 use pair_frames::sizes::DEALT_BYTES;
 use pair_frames::sizes::HEADER_BYTES;
 use pair_frames::sizes::INNER_BYTES;

@@ -1,3 +1,2 @@
 // The dealer: both deal frames.
 pub mod dealer;
-pub mod frames;

@@ -9,7 +9,7 @@ use Rattle.numbers.specs.Number.{first, merge}
 use Rattle.pair_model.specs.Tape.{tapeBytes}
 use Rattle.pair_model.specs.Dealer.{dealtBytes, dealConditions}
 use Rattle.pair_sampler.specs.Sized.{sized}
-use Rattle.pair_dealer.proofs.Parts.{fit-part}
+use Rattle.pair_deals.proofs.Parts.{fit-part}
 use Rattle.pair_dealer.proofs.dealer.deal_number.Statement.{statement}
 use Rattle.pair_dealer.proofs.dealer.deal_number.Tie as tie
 

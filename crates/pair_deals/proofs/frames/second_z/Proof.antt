@@ -1,4 +1,4 @@
--- `pair_dealer::frames::second_z` meets its contract: the fields are parts of the tape, and the sums fill the fronts of their arrays.
+-- `pair_deals::frames::second_z` meets its contract: the fields are parts of the tape, and the sums fill the fronts of their arrays.
 use mathlib.Core.Path.{_≡_, sym, _∙_}
 use Prim.Native.Nat.{ℕ, _+_, _-_, _*_}
 use mathlib.Core.List.{List}
@@ -8,9 +8,9 @@ use lib.ListN.{length, take, drop}
 use lib.Seq.{take-at, length-take-le}
 use Rattle.linear_model.specs.Bits.{zeros, addBits}
 use Rattle.linear_model.specs.Products.{circulantProduct}
-use Rattle.pair_dealer.proofs.Parts.{front-long, front-part, z-is}
-use Rattle.pair_dealer.proofs.frames.second_z.Statement.{statement}
-use Rattle.pair_dealer.proofs.frames.second_z.Tie as tie
+use Rattle.pair_deals.proofs.Parts.{front-long, front-part, z-is}
+use Rattle.pair_deals.proofs.frames.second_z.Statement.{statement}
+use Rattle.pair_deals.proofs.frames.second_z.Tie as tie
 
 slice-aggregate-add-bits : tie.Need-slice-aggregate-add-bits
 slice-aggregate-add-bits c = let s = c .before .before .before in sym (length-take-le (s .args .key-bytes) (s .args .tape .now) (omega arith))

@@ -1,4 +1,4 @@
--- `pair_dealer::frames::write_first` meets its contract: the header and four parts of the tape, one behind the other.
+-- `pair_deals::frames::write_first` meets its contract: the header and four parts of the tape, one behind the other.
 use mathlib.Core.Path.{sym, ap, _∙_}
 use Prim.Native.Nat.{_+_, _-_, _*_}
 use native.Mathlib.Omega.{arith}
@@ -9,9 +9,9 @@ use Rattle.pair_model.specs.Scheme.{side0}
 use Rattle.pair_model.proofs.Internal.Fields.{tape-K̃0, tape-x̃0}
 use Rattle.pair_model.proofs.Internal.FieldCopies.{fields-none, fields-more}
 use Rattle.pair_sampler.specs.Sized.{sized}
-use Rattle.pair_dealer.proofs.Parts.{header-long, cut, cut-long, first-z, first-r, deal-fields}
-use Rattle.pair_dealer.proofs.frames.write_first.Statement.{statement}
-use Rattle.pair_dealer.proofs.frames.write_first.Tie as tie
+use Rattle.pair_deals.proofs.Parts.{header-long, cut, cut-long, first-z, first-r, deal-fields}
+use Rattle.pair_deals.proofs.frames.write_first.Statement.{statement}
+use Rattle.pair_deals.proofs.frames.write_first.Tie as tie
 
 slice-aggregate-put-2 : tie.Need-slice-aggregate-put-2
 slice-aggregate-put-2 c = let a = c .before .before .before .before .before .before .before .before .before .args in sym (length-take-le (a .key-bytes) (a .tape .now) (omega arith))

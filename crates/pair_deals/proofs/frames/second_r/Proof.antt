@@ -1,8 +1,8 @@
--- `pair_dealer::frames::second_r` meets its contract: w̃ and r0 are parts of the tape.
+-- `pair_deals::frames::second_r` meets its contract: w̃ and r0 are parts of the tape.
 use borrow.Author.Needs.{needs}
-use Rattle.pair_dealer.proofs.Parts.{r-is}
-use Rattle.pair_dealer.proofs.frames.second_r.Statement.{statement}
-use Rattle.pair_dealer.proofs.frames.second_r.Tie as tie
+use Rattle.pair_deals.proofs.Parts.{r-is}
+use Rattle.pair_deals.proofs.frames.second_r.Statement.{statement}
+use Rattle.pair_deals.proofs.frames.second_r.Tie as tie
 
 returns : tie.Need-returns
 returns c =

@@ -1,9 +1,9 @@
--- `pair_dealer::frames::write_deal` meets its contract: the second frame is written behind the first.
+-- `pair_deals::frames::write_deal` meets its contract: the second frame is written behind the first.
 use native.Mathlib.Omega.{arith}
 use borrow.Author.Needs.{needs}
-use Rattle.pair_dealer.proofs.Parts.{deal-behind}
-use Rattle.pair_dealer.proofs.frames.write_deal.Statement.{statement}
-use Rattle.pair_dealer.proofs.frames.write_deal.Tie as tie
+use Rattle.pair_deals.proofs.Parts.{deal-behind}
+use Rattle.pair_deals.proofs.frames.write_deal.Statement.{statement}
+use Rattle.pair_deals.proofs.frames.write_deal.Tie as tie
 
 returns : tie.Need-returns
 returns c =

@@ -1,4 +1,4 @@
--- `pair_dealer::frames::write_second` meets its contract: the header and two parts of the tape are copied, and what is made of it is written behind them.
+-- `pair_deals::frames::write_second` meets its contract: the header and two parts of the tape are copied, and what is made of it is written behind them.
 use mathlib.Core.Path.{_≡_, sym, ap, _∙_}
 use mathlib.Core.List.{List, _++_}
 use Prim.Native.Nat.{ℕ, _+_, _-_, _*_}
@@ -10,9 +10,9 @@ use Rattle.pair_model.specs.Scheme.{side1}
 use Rattle.pair_model.proofs.Internal.Fields.{tape-K̃1, tape-x̃1}
 use Rattle.pair_model.proofs.Internal.FieldCopies.{fields-none, fields-more}
 use Rattle.pair_sampler.specs.Sized.{sized}
-use Rattle.pair_dealer.proofs.Parts.{header-long, cut, cut-long, part-pasted, z-long, r-long, deal-fields}
-use Rattle.pair_dealer.proofs.frames.write_second.Statement.{statement}
-use Rattle.pair_dealer.proofs.frames.write_second.Tie as tie
+use Rattle.pair_deals.proofs.Parts.{header-long, cut, cut-long, part-pasted, z-long, r-long, deal-fields}
+use Rattle.pair_deals.proofs.frames.write_second.Statement.{statement}
+use Rattle.pair_deals.proofs.frames.write_second.Tie as tie
 
 same-length : tie.Need-same-length
 same-length c =

@@ -1,0 +1,2 @@
+// Both deal frames of a tape.
+pub mod frames;
