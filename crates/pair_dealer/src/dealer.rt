@@ -23,6 +23,7 @@ use pair_frames::bytes::sum_32;
 use pair_frames::fields::deal_body;
 use pair_frames::frame::DEAL;
 use pair_frames::frame::write_frame;
+use pair_frames::parameters::Parameters;
 use pair_frames::sizes::DEAL_FRAME_BYTES;
 use pair_frames::sizes::DEALT_BYTES;
 use pair_frames::sizes::INNER_BYTES;
@@ -100,7 +101,11 @@ fn write_first(session: u32, tape: &[u8], out: &mut [u8])
         &tape[TAPE_Z..TAPE_R],
         &tape[TAPE_R..TAPE_BYTES],
     );
-    write_frame(DEAL, 0, session, &body, out);
+    let parameters = Parameters {
+        side: 0,
+        session: session,
+    };
+    write_frame(DEAL, parameters, &body, out);
 }
 
 // Writes unit 1's deal frame: K̃1, x̃1, z1, r1.
@@ -116,7 +121,11 @@ fn write_second(session: u32, tape: &[u8], out: &mut [u8])
         &z,
         &r,
     );
-    write_frame(DEAL, 1, session, &body, out);
+    let parameters = Parameters {
+        side: 1,
+        session: session,
+    };
+    write_frame(DEAL, parameters, &body, out);
 }
 
 // Writes both deal frames, unit 0's first.
