@@ -5,8 +5,9 @@ ghost use lib.Dec.{eqb};
 ghost use lib.ListN.{length};
 ghost use Rattle.numbers.specs.Number.{first};
 ghost use Rattle.pair_model.specs.Scheme.{files};
-ghost use Rattle.pair_model.specs.Base.{base};
-ghost use Rattle.pair_model.specs.Frame.{parameters, maskKind, kindOf, frameBytes};
+ghost use Rattle.pair_frames.specs.Headers.{parametersIn};
+ghost use Rattle.pair_frames.specs.Schemes.{schemeOf, Fits};
+ghost use Rattle.pair_model.specs.Frame.{maskKind, kindOf, frameBytes};
 ghost use Rattle.pair_model.specs.Unit.{expectedSide, lengthConditions, headerConditions, contentConditions, stepNumber};
 use linear::trits::trits_fit;
 use matrix::file::matrix_check;
@@ -19,12 +20,14 @@ use numbers::table::WRONG_LENGTH;
 use pair_frames::fields::r_of_deal;
 use pair_frames::frame::DEAL;
 use pair_frames::frame::MASK;
+use pair_frames::frame::OPEN;
+use pair_frames::frame::frame_bytes;
 use pair_frames::frame::header_number;
 use pair_frames::frame::read_header;
 use pair_frames::header::Header;
+use pair_frames::parameters::Parameters;
 use pair_frames::sizes::FILE_BYTES;
-use pair_frames::sizes::INNER_TRITS;
-use pair_frames::sizes::OPEN_FRAME_BYTES;
+use pair_frames::sizes::Sizes;
 
 // Whether the step reads the file: the frame has a first byte and it is 3.
 fn reads_file(f: &[u8]) -> bool
@@ -47,10 +50,11 @@ fn expected_side(kind: u8, side: u8) -> u8
 }
 
 // The number as far as lengths decide it.
-fn length_number(f: &[u8], file: &[u8], room: usize) -> u32
-    ensures { λ r. ⌜ r ≡ first (lengthConditions base (now (f .entry)) (files (now (file .entry))) room) ⌝ }
+fn length_number(sizes: Sizes, f: &[u8], file: &[u8], room: usize) -> u32
+    requires { ⌜ Fits sizes ⌝ }
+    ensures { λ r. ⌜ r ≡ first (lengthConditions (schemeOf sizes) (now (f .entry)) (files (now (file .entry))) room) ⌝ }
 {
-    if room < OPEN_FRAME_BYTES {
+    if room < frame_bytes(sizes, OPEN) {
         return WRONG_LENGTH;
     }
     if file.len() == FILE_BYTES {
@@ -60,10 +64,11 @@ fn length_number(f: &[u8], file: &[u8], room: usize) -> u32
 }
 
 // The number as far as the header and what the unit waits for decide it.
-fn frame_number(side: u8, session: u32, stage: u8, f: &[u8]) -> u32
-    ensures { λ r. ⌜ r ≡ first (headerConditions base (parameters side session) stage (now (f .entry))) ⌝ }
+fn frame_number(sizes: Sizes, parameters: Parameters, stage: u8, f: &[u8]) -> u32
+    requires { ⌜ Fits sizes ⌝ }
+    ensures { λ r. ⌜ r ≡ first (headerConditions (schemeOf sizes) (parametersIn parameters) stage (now (f .entry))) ⌝ }
 {
-    let h = read_header(f, DEAL, MASK);
+    let h = read_header(sizes, f, DEAL, MASK);
     let Header::Fields {
         kind,
         side: named,
@@ -73,10 +78,10 @@ fn frame_number(side: u8, session: u32, stage: u8, f: &[u8]) -> u32
     else {
         return header_number(h);
     };
-    if number != session {
+    if number != parameters.session {
         return OTHER_SESSION;
     }
-    if named != expected_side(kind, side) {
+    if named != expected_side(kind, parameters.side) {
         return OTHER_SIDE;
     }
     if kind != stage {
@@ -86,9 +91,12 @@ fn frame_number(side: u8, session: u32, stage: u8, f: &[u8]) -> u32
 }
 
 // The number as far as what the frame brings decides it: the file that is read, or the trits of a deal.
-fn content_number(f: &[u8], file: &[u8]) -> u32
-    requires { ⌜ (length (now f) ≡ frameBytes base (kindOf (now f))) × (kindOf (now f) ≡ maskKind → length (now file) ≡ base .rowsReading .bytes) ⌝ }
-    ensures { λ r. ⌜ r ≡ first (contentConditions base (now (f .entry)) (files (now (file .entry)))) ⌝ }
+fn content_number(sizes: Sizes, f: &[u8], file: &[u8]) -> u32
+    requires { ⌜
+        Fits sizes × (length (now f) ≡ frameBytes (schemeOf sizes) (kindOf (now f)))
+        × (kindOf (now f) ≡ maskKind → length (now file) ≡ schemeOf sizes .rowsReading .bytes)
+        ⌝ }
+    ensures { λ r. ⌜ r ≡ first (contentConditions (schemeOf sizes) (now (f .entry)) (files (now (file .entry)))) ⌝ }
 {
     if reads_file(f) {
         return matrix_check(file);
@@ -96,24 +104,34 @@ fn content_number(f: &[u8], file: &[u8]) -> u32
     if f[0] != DEAL {
         return DONE;
     }
-    if trits_fit(r_of_deal(f), INNER_TRITS) {
+    if trits_fit(r_of_deal(sizes, f), 8 * sizes.inner_bytes) {
         DONE
     } else {
         UNFIT_TRIT
     }
 }
 
-// The number of a step of a unit of this side, session and stage.
-pub fn step_number(side: u8, session: u32, stage: u8, f: &[u8], file: &[u8], room: usize) -> u32
-    ensures { λ r. ⌜ r ≡ stepNumber base (parameters side session) stage (now (f .entry)) (files (now (file .entry))) room ⌝ }
+// The number of a step of a unit of these parameters and this stage.
+pub fn step_number(
+    sizes: Sizes,
+    parameters: Parameters,
+    stage: u8,
+    f: &[u8],
+    file: &[u8],
+    room: usize,
+) -> u32
+    requires { ⌜ Fits sizes ⌝ }
+    ensures { λ r. ⌜
+        r ≡ stepNumber (schemeOf sizes) (parametersIn parameters) stage (now (f .entry)) (files (now (file .entry))) room
+        ⌝ }
 {
-    let of_lengths = length_number(f, file, room);
+    let of_lengths = length_number(sizes, f, file, room);
     if of_lengths != DONE {
         return of_lengths;
     }
-    let of_frame = frame_number(side, session, stage, f);
+    let of_frame = frame_number(sizes, parameters, stage, f);
     if of_frame != DONE {
         return of_frame;
     }
-    content_number(f, file)
+    content_number(sizes, f, file)
 }

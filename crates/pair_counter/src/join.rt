@@ -24,6 +24,7 @@ use pair_frames::frame::SHARE;
 use pair_frames::frame::header_number;
 use pair_frames::frame::read_header;
 use pair_frames::header::Header;
+use pair_frames::sizes::BASE;
 use pair_frames::sizes::CODE_BYTES;
 use pair_frames::sizes::DIGITS;
 use pair_frames::sizes::HEADER_BYTES;
@@ -67,8 +68,8 @@ fn join_number(f: &[u8], g: &[u8], room: usize) -> u32
     if room < CODE_BYTES {
         return WRONG_LENGTH;
     }
-    let p = read_header(f, SHARE, SHARE);
-    let q = read_header(g, SHARE, SHARE);
+    let p = read_header(BASE, f, SHARE, SHARE);
+    let q = read_header(BASE, g, SHARE, SHARE);
     let refusal = lower(header_number(p), header_number(q));
     let Header::Fields {
         side: side_f,

@@ -16,6 +16,7 @@ use linear::trits::subtract_trits;
 use linear_words::bytes::put;
 use pair_frames::frame::DEAL;
 use pair_frames::frame::header_bytes;
+use pair_frames::parameters::Parameters;
 use pair_frames::sizes::HEADER_BYTES;
 use pair_frames::sizes::KEY_BYTES;
 
@@ -79,7 +80,13 @@ fn write_first(key_bytes: usize, inner_bytes: usize, session: u32, tape: &[u8], 
     let label_at = HEADER_BYTES + key_bytes;
     let z_at = label_at + key_bytes;
     let r_at = z_at + inner_bytes;
-    let head = header_bytes(DEAL, 0, session);
+    let head = header_bytes(
+        DEAL,
+        Parameters {
+            side: 0,
+            session: session,
+        },
+    );
     put(&head, out, 0);
     put(&tape[..key_bytes], out, HEADER_BYTES);
     put(&tape[2 * key_bytes..3 * key_bytes], out, label_at);
@@ -103,7 +110,13 @@ fn write_second(key_bytes: usize, inner_bytes: usize, session: u32, tape: &[u8],
     let z_at = label_at + key_bytes;
     let r_at = z_at + inner_bytes;
     let end = r_at + 2 * inner_bytes;
-    let head = header_bytes(DEAL, 1, session);
+    let head = header_bytes(
+        DEAL,
+        Parameters {
+            side: 1,
+            session: session,
+        },
+    );
     put(&head, out, 0);
     put(&tape[key_bytes..2 * key_bytes], out, HEADER_BYTES);
     put(&tape[3 * key_bytes..4 * key_bytes], out, label_at);

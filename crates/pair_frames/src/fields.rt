@@ -2,59 +2,75 @@
 ghost use mathlib.Core.Path.{_≡_};
 ghost use mathlib.Core.List.{[], _∷_, _++_};
 ghost use Prim.Native.Nat.{_+_, _*_, _≤_};
-ghost use lib.ListN.{length, drop};
+ghost use lib.ListN.{length, take, drop};
+ghost use Rattle.linear_model.specs.Bits.{addBits};
 ghost use Rattle.pair_model.specs.Scheme.{layoutBytes, field, concat};
 ghost use Rattle.pair_model.specs.Base.{base};
 ghost use Rattle.pair_model.specs.Tape.{dealLayout};
-ghost use Rattle.pair_model.specs.Frame.{parameters, dealKind, openKind, frame, frameBytes, bodyOf, openLayout};
-use crate::bytes::array_32;
+ghost use Rattle.pair_model.specs.Frame.{dealKind, openKind, frame, frameBytes, bodyOf};
+ghost use Rattle.pair_frames.specs.Headers.{parametersIn};
+ghost use Rattle.pair_frames.specs.Schemes.{schemeOf, Fits};
 use crate::frame::OPEN;
 use crate::frame::header_bytes;
+use crate::parameters::Parameters;
 use crate::sizes::DEAL_BYTES;
-use crate::sizes::DEAL_FRAME_BYTES;
 use crate::sizes::DEAL_KEY_MASK;
 use crate::sizes::DEAL_LABEL_MASK;
 use crate::sizes::DEAL_R;
 use crate::sizes::DEAL_Z;
 use crate::sizes::HEADER_BYTES;
 use crate::sizes::INNER_BYTES;
+use crate::sizes::INNER_ROOM;
 use crate::sizes::KEY_BYTES;
+use crate::sizes::KEY_ROOM;
+use crate::sizes::Sizes;
 use crate::sizes::TRITS_BYTES;
+use crate::sizes::TRITS_ROOM;
+use linear::bits::add_bits;
 use linear_words::bytes::put;
 
-// A deal: K̃i, x̃i, zi, ri.
+// A deal: K̃i, x̃i, zi, ri, each in the front of its room.
 pub struct Deal {
-    pub key_mask: [u8; KEY_BYTES],
-    pub label_mask: [u8; KEY_BYTES],
-    pub z: [u8; INNER_BYTES],
-    pub r: [u8; TRITS_BYTES],
+    pub key_mask: [u8; KEY_ROOM],
+    pub label_mask: [u8; KEY_ROOM],
+    pub z: [u8; INNER_ROOM],
+    pub r: [u8; TRITS_ROOM],
 }
 
 // The deal in `s` from `at` on.
-pub fn read_deal(s: &[u8], at: usize) -> Deal
-    requires { ⌜ at + layoutBytes (dealLayout base) ≤ length (now s) ⌝ }
-    ensures key_mask { λ d. ⌜ d .«key_mask» ≡ field (dealLayout base) 0 (drop at (now (s .entry))) ⌝ }
-    ensures label_mask { λ d. ⌜ d .«label_mask» ≡ field (dealLayout base) 1 (drop at (now (s .entry))) ⌝ }
-    ensures z { λ d. ⌜ d .z ≡ field (dealLayout base) 2 (drop at (now (s .entry))) ⌝ }
-    ensures r { λ d. ⌜ d .r ≡ field (dealLayout base) 3 (drop at (now (s .entry))) ⌝ }
+pub fn read_deal(sizes: Sizes, s: &[u8], at: usize) -> Deal
+    requires { ⌜ Fits sizes × (at + layoutBytes (dealLayout (schemeOf sizes)) ≤ length (now s)) ⌝ }
+    ensures key_mask { λ d. ⌜ take (sizes .«key_bytes») (d .«key_mask») ≡ field (dealLayout (schemeOf sizes)) 0 (drop at (now (s .entry))) ⌝ }
+    ensures label_mask { λ d. ⌜ take (sizes .«key_bytes») (d .«label_mask») ≡ field (dealLayout (schemeOf sizes)) 1 (drop at (now (s .entry))) ⌝ }
+    ensures z { λ d. ⌜ take (sizes .«inner_bytes») (d .z) ≡ field (dealLayout (schemeOf sizes)) 2 (drop at (now (s .entry))) ⌝ }
+    ensures r { λ d. ⌜ take (2 * sizes .«inner_bytes») (d .r) ≡ field (dealLayout (schemeOf sizes)) 3 (drop at (now (s .entry))) ⌝ }
 {
-    let start = at + DEAL_R;
-    let mut r = [0u8; TRITS_BYTES];
-    put(&s[start..start + TRITS_BYTES], &mut r, 0);
+    let label_at = at + sizes.key_bytes;
+    let z_at = label_at + sizes.key_bytes;
+    let r_at = z_at + sizes.inner_bytes;
+    let mut key_mask = [0u8; KEY_ROOM];
+    let mut label_mask = [0u8; KEY_ROOM];
+    let mut z = [0u8; INNER_ROOM];
+    let mut r = [0u8; TRITS_ROOM];
+    put(&s[at..label_at], &mut key_mask, 0);
+    put(&s[label_at..z_at], &mut label_mask, 0);
+    put(&s[z_at..r_at], &mut z, 0);
+    put(&s[r_at..r_at + 2 * sizes.inner_bytes], &mut r, 0);
     Deal {
-        key_mask: array_32(s, at + DEAL_KEY_MASK),
-        label_mask: array_32(s, at + DEAL_LABEL_MASK),
-        z: array_32(s, at + DEAL_Z),
+        key_mask: key_mask,
+        label_mask: label_mask,
+        z: z,
         r: r,
     }
 }
 
 // The r of a deal frame.
-pub fn r_of_deal(f: &[u8]) -> &[u8]
-    requires { ⌜ length (now f) ≡ frameBytes base dealKind ⌝ }
-    ensures { λ r. ⌜ now r ≡ field (dealLayout base) 3 (bodyOf (now (f .entry))) ⌝ }
+pub fn r_of_deal(sizes: Sizes, f: &[u8]) -> &[u8]
+    requires { ⌜ Fits sizes × (length (now f) ≡ frameBytes (schemeOf sizes) dealKind) ⌝ }
+    ensures { λ r. ⌜ now r ≡ field (dealLayout (schemeOf sizes)) 3 (bodyOf (now (f .entry))) ⌝ }
 {
-    &f[HEADER_BYTES + DEAL_R..DEAL_FRAME_BYTES]
+    let at = HEADER_BYTES + 2 * sizes.key_bytes + sizes.inner_bytes;
+    &f[at..at + 2 * sizes.inner_bytes]
 }
 
 // A deal of its fields. Lengths are written out, so that copies are compiled for them.
@@ -73,37 +89,31 @@ pub fn deal_body(key_mask: &[u8], label_mask: &[u8], z: &[u8], r: &[u8]) -> [u8;
     body
 }
 
-// An open frame's body: key half + K̃i, label half + x̃i.
-pub struct Opened {
-    pub key: [u8; KEY_BYTES],
-    pub label: [u8; KEY_BYTES],
-}
-
-// The body of an open frame.
-pub fn read_open(f: &[u8]) -> Opened
-    requires { ⌜ length (now f) ≡ frameBytes base openKind ⌝ }
-    ensures key { λ o. ⌜ o .key ≡ field (openLayout base) 0 (bodyOf (now (f .entry))) ⌝ }
-    ensures label { λ o. ⌜ o .label ≡ field (openLayout base) 1 (bodyOf (now (f .entry))) ⌝ }
-{
-    Opened {
-        key: array_32(f, HEADER_BYTES),
-        label: array_32(f, HEADER_BYTES + KEY_BYTES),
-    }
-}
-
-// Writes an open frame to the front of `out`.
-pub fn write_open_frame(side: u8, session: u32, key: &[u8], label: &[u8], out: &mut [u8])
-    requires { ⌜
-        (length (now key) ≡ base .keyBytes) × (length (now label) ≡ base .keyBytes) × (frameBytes base openKind ≤ length (now out))
-        ⌝ }
+// Writes an open frame to the front of `out`: key half + K̃i, label half + x̃i.
+pub fn write_open_frame(
+    sizes: Sizes,
+    parameters: Parameters,
+    key: &[u8],
+    label: &[u8],
+    key_mask: &[u8],
+    label_mask: &[u8],
+    out: &mut [u8],
+)
+    requires { ⌜ Fits sizes × (frameBytes (schemeOf sizes) openKind ≤ length (now out)) ⌝ }
     ensures { λ _. ⌜
         now (out .exit) ≡
-        frame openKind (parameters side session) (concat (now (key .entry) ∷ now (label .entry) ∷ []))
-        ++ drop (frameBytes base openKind) (now (out .entry))
+        frame openKind (parametersIn parameters)
+        (concat
+        (addBits (sizes .«key_bytes») (now (key .entry)) (now («key_mask» .entry))
+        ∷ addBits (sizes .«key_bytes») (now (label .entry)) (now («label_mask» .entry))
+        ∷ []))
+        ++ drop (frameBytes (schemeOf sizes) openKind) (now (out .entry))
         ⌝ }
 {
-    let head = header_bytes(OPEN, side, session);
+    let head = header_bytes(OPEN, parameters);
     put(&head, out, 0);
-    put(key, out, HEADER_BYTES);
-    put(label, out, HEADER_BYTES + KEY_BYTES);
+    let label_at = HEADER_BYTES + sizes.key_bytes;
+    let end = label_at + sizes.key_bytes;
+    add_bits(key, key_mask, &mut out[HEADER_BYTES..label_at]);
+    add_bits(label, label_mask, &mut out[label_at..end]);
 }

@@ -3,16 +3,14 @@ ghost use mathlib.Core.Path.{_≡_};
 ghost use mathlib.Core.List.{_++_};
 ghost use Prim.Native.Nat.{_+_, _≤_};
 ghost use lib.ListN.{length, drop};
-ghost use Rattle.pair_model.specs.Base.{base};
-ghost use Rattle.pair_model.specs.Frame.{parameters, header, headerBytes, frame, sessionOf, frameBytes};
+ghost use Rattle.pair_model.specs.Frame.{parameters, header, headerBytes, frame, sideOf, sessionOf, frameBytes};
 ghost use Rattle.pair_model.specs.Header.{readHeader, headerNumber};
-ghost use Rattle.pair_frames.specs.Headers.{headerOf};
+ghost use Rattle.pair_frames.specs.Headers.{parametersIn, headerOf};
+ghost use Rattle.pair_frames.specs.Schemes.{schemeOf, Fits};
 use crate::header::Header;
-use crate::sizes::DEAL_FRAME_BYTES;
+use crate::parameters::Parameters;
 use crate::sizes::HEADER_BYTES;
-use crate::sizes::MASK_FRAME_BYTES;
-use crate::sizes::OPEN_FRAME_BYTES;
-use crate::sizes::SHARE_FRAME_BYTES;
+use crate::sizes::Sizes;
 use linear_words::bytes::put;
 use linear_words::bytes::wide;
 use numbers::table::DONE;
@@ -29,14 +27,15 @@ pub const MASK: u8 = 3;
 pub const SHARE: u8 = 4;
 
 // The whole length of a frame, by its kind.
-fn frame_bytes(kind: u8) -> usize
-    ensures { λ r. ⌜ r ≡ frameBytes base kind ⌝ }
+pub fn frame_bytes(sizes: Sizes, kind: u8) -> usize
+    requires { ⌜ Fits sizes ⌝ }
+    ensures { λ r. ⌜ r ≡ frameBytes (schemeOf sizes) kind ⌝ }
 {
     match kind {
-        DEAL => DEAL_FRAME_BYTES,
-        OPEN => OPEN_FRAME_BYTES,
-        MASK => MASK_FRAME_BYTES,
-        SHARE => SHARE_FRAME_BYTES,
+        DEAL => HEADER_BYTES + 2 * sizes.key_bytes + 3 * sizes.inner_bytes,
+        OPEN => HEADER_BYTES + 2 * sizes.key_bytes,
+        MASK => HEADER_BYTES + sizes.inner_bytes,
+        SHARE => HEADER_BYTES + 2 * ((sizes.digits + 7) / 8),
         _ => HEADER_BYTES,
     }
 }
@@ -49,9 +48,21 @@ pub fn session_of(f: &[u8]) -> u32
     (wide(f[2]) + 256 * wide(f[3]) + 65536 * wide(f[4]) + 16777216 * wide(f[5])) as u32
 }
 
+// The parameters in a header.
+pub fn parameters_of(f: &[u8]) -> Parameters
+    requires { ⌜ headerBytes ≤ length (now f) ⌝ }
+    ensures { λ r. ⌜ parametersIn r ≡ parameters (sideOf (now (f .entry))) (sessionOf (now (f .entry))) ⌝ }
+{
+    Parameters {
+        side: f[1],
+        session: session_of(f),
+    }
+}
+
 // Reads a frame whose kind may be `lowest` to `highest`.
-pub fn read_header(f: &[u8], lowest: u8, highest: u8) -> Header
-    ensures { λ r. ⌜ headerOf r ≡ readHeader base lowest highest (now (f .entry)) ⌝ }
+pub fn read_header(sizes: Sizes, f: &[u8], lowest: u8, highest: u8) -> Header
+    requires { ⌜ Fits sizes ⌝ }
+    ensures { λ r. ⌜ headerOf r ≡ readHeader (schemeOf sizes) lowest highest (now (f .entry)) ⌝ }
 {
     if f.len() < HEADER_BYTES {
         return Header::Refused(NO_KIND);
@@ -63,7 +74,7 @@ pub fn read_header(f: &[u8], lowest: u8, highest: u8) -> Header
     if highest < kind {
         return Header::Refused(NO_KIND);
     }
-    if f.len() != frame_bytes(kind) {
+    if f.len() != frame_bytes(sizes, kind) {
         return Header::Refused(FRAME_LENGTH);
     }
     Header::Fields {
@@ -90,12 +101,13 @@ pub fn header_number(h: Header) -> u32
 }
 
 // The bytes of a header.
-pub fn header_bytes(kind: u8, side: u8, session: u32) -> [u8; HEADER_BYTES]
-    ensures { λ r. ⌜ r ≡ header kind (parameters side session) ⌝ }
+pub fn header_bytes(kind: u8, parameters: Parameters) -> [u8; HEADER_BYTES]
+    ensures { λ r. ⌜ r ≡ header kind (parametersIn parameters) ⌝ }
 {
+    let session = parameters.session;
     [
         kind,
-        side,
+        parameters.side,
         (session % 256) as u8,
         (session / 256 % 256) as u8,
         (session / 65536 % 256) as u8,
@@ -104,14 +116,14 @@ pub fn header_bytes(kind: u8, side: u8, session: u32) -> [u8; HEADER_BYTES]
 }
 
 // Writes a frame to the front of `out`.
-pub fn write_frame(kind: u8, side: u8, session: u32, body: &[u8], out: &mut [u8])
+pub fn write_frame(kind: u8, parameters: Parameters, body: &[u8], out: &mut [u8])
     requires { ⌜ headerBytes + length (now body) ≤ length (now out) ⌝ }
     ensures { λ _. ⌜
         now (out .exit) ≡
-        frame kind (parameters side session) (now (body .entry)) ++ drop (headerBytes + length (now (body .entry))) (now (out .entry))
+        frame kind (parametersIn parameters) (now (body .entry)) ++ drop (headerBytes + length (now (body .entry))) (now (out .entry))
         ⌝ }
 {
-    let head = header_bytes(kind, side, session);
+    let head = header_bytes(kind, parameters);
     put(&head, out, 0);
     put(body, out, HEADER_BYTES);
 }

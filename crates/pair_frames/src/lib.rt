@@ -3,4 +3,5 @@ pub mod bytes;
 pub mod fields;
 pub mod frame;
 pub mod header;
+pub mod parameters;
 pub mod sizes;

@@ -3,6 +3,27 @@ pub use matrix_model::sizes::CODE_BYTES;
 pub use matrix_model::sizes::FILE_BYTES;
 use matrix_model::sizes::ROW_COUNT;
 
+// The sizes that a scheme chooses: the bytes of a key, those of a bit string as long as the inner vector, and the digits of a code.
+pub struct Sizes {
+    pub key_bytes: usize,
+    pub inner_bytes: usize,
+    pub digits: usize,
+}
+
+// The sizes of document 01.
+pub const BASE: Sizes = Sizes {
+    key_bytes: KEY_BYTES,
+    inner_bytes: INNER_BYTES,
+    digits: DIGITS,
+};
+
+// The most bytes of a key and of an inner bit string that a unit's state has room for.
+pub const KEY_ROOM: usize = 32;
+
+pub const INNER_ROOM: usize = 32;
+
+pub const TRITS_ROOM: usize = 2 * INNER_ROOM;
+
 // Bytes of a key, of a label, and of a half or a mask of one.
 pub const KEY_BYTES: usize = 32;
 

@@ -4,19 +4,22 @@ ghost use mathlib.Core.List.{_++_};
 ghost use Prim.Native.Nat.{_+_, _≤_};
 ghost use lib.ListN.{length, take, drop};
 ghost use Rattle.numbers.specs.Number.{atFront};
+ghost use Rattle.pair_frames.specs.Schemes.{schemeOf, Fits};
 ghost use Rattle.pair_model.specs.Scheme.{files};
 ghost use Rattle.pair_model.specs.Base.{base};
 ghost use Rattle.pair_model.specs.Frame.{parameters, kindOf, sideOf, sessionOf, bodyOf};
 ghost use Rattle.pair_model.specs.Unit.{advance, stepNumber};
 ghost use Rattle.pair_model.specs.StateSlice.{stateBytes, encodeState, decodeState};
-ghost use Rattle.pair_units.specs.Units.{stateOf, unitOf};
+ghost use Rattle.pair_units.specs.Units.{stateAt, stateOf};
 use linear_words::bytes::put;
-use pair_frames::bytes::array_32;
 use pair_frames::fields::read_deal;
 use pair_frames::frame::header_bytes;
-use pair_frames::frame::session_of;
+use pair_frames::frame::parameters_of;
+use pair_frames::sizes::BASE;
+use pair_frames::sizes::HEADER_BYTES;
+use pair_frames::sizes::INNER_ROOM;
+use pair_frames::sizes::KEY_ROOM;
 use pair_frames::sizes::OPEN_FRAME_BYTES;
-use pair_frames::sizes::STATE_DEAL;
 use pair_frames::sizes::STATE_KEY;
 use pair_frames::sizes::STATE_KEY_MASK;
 use pair_frames::sizes::STATE_LABEL;
@@ -24,6 +27,7 @@ use pair_frames::sizes::STATE_LABEL_MASK;
 use pair_frames::sizes::STATE_OWN_MASK;
 use pair_frames::sizes::STATE_R;
 use pair_frames::sizes::STATE_Z;
+use pair_frames::sizes::Sizes;
 use pair_frames::sizes::TRITS_BYTES;
 use pair_units::state::UnitState;
 use pair_units::state::WAITS_FOR_DEAL;
@@ -53,7 +57,8 @@ pub fn encode(u: UnitState, s: &mut [u8])
     requires { ⌜ length (now s) ≡ stateBytes base ⌝ }
     ensures { λ _. ⌜ now (s .exit) ≡ encodeState (stateOf u) ⌝ }
 {
-    let head = header_bytes(u.stage, u.side, u.session);
+    let parameters = u.parameters;
+    let head = header_bytes(u.stage, parameters);
     let key = u.key;
     let label = u.label;
     let key_mask = u.key_mask;
@@ -72,26 +77,35 @@ pub fn encode(u: UnitState, s: &mut [u8])
 }
 
 // The state in a slice.
-pub fn decode(s: &[u8]) -> UnitState
-    requires { ⌜ length (now s) ≡ stateBytes base ⌝ }
-    ensures { λ r. ⌜ r ≡ unitOf (decodeState base (now (s .entry))) ⌝ }
+pub fn decode(sizes: Sizes, s: &[u8]) -> UnitState
+    requires { ⌜ Fits sizes × (length (now s) ≡ stateBytes (schemeOf sizes)) ⌝ }
+    ensures { λ r. ⌜ stateAt sizes r ≡ decodeState (schemeOf sizes) (now (s .entry)) ⌝ }
 {
-    let d = read_deal(s, STATE_DEAL);
+    let n = sizes.key_bytes;
+    let label_at = HEADER_BYTES + n;
+    let deal_at = label_at + n;
+    let mask_at = deal_at + 2 * n + 3 * sizes.inner_bytes;
+    let d = read_deal(sizes, s, deal_at);
     let key_mask = d.key_mask;
     let label_mask = d.label_mask;
     let z = d.z;
     let r = d.r;
+    let mut key = [0u8; KEY_ROOM];
+    let mut label = [0u8; KEY_ROOM];
+    let mut own_mask = [0u8; INNER_ROOM];
+    put(&s[HEADER_BYTES..label_at], &mut key, 0);
+    put(&s[label_at..deal_at], &mut label, 0);
+    put(&s[mask_at..mask_at + sizes.inner_bytes], &mut own_mask, 0);
     UnitState {
-        side: s[1],
-        session: session_of(s),
+        parameters: parameters_of(s),
         stage: s[0],
-        key: array_32(s, STATE_KEY),
-        label: array_32(s, STATE_LABEL),
+        key: key,
+        label: label,
         key_mask: key_mask,
         label_mask: label_mask,
         z: z,
         r: r,
-        own_mask: array_32(s, STATE_OWN_MASK),
+        own_mask: own_mask,
     }
 }
 
@@ -112,11 +126,11 @@ pub fn advance_slice(state: &mut [u8], f: &[u8], file: &[u8], out: &mut [u8]) ->
         ⌝ }
 {
     if state[0] == WAITS_FOR_DEAL {
-        let next = take_deal(decode(state), f, out);
+        let next = take_deal(BASE, decode(BASE, state), f, out);
         encode(next, state);
         return OPEN_FRAME_BYTES;
     }
-    let a = advance(decode(state), f, file, out);
+    let a = advance(BASE, decode(BASE, state), f, file, out);
     let next = a.next;
     encode(next, state);
     a.written

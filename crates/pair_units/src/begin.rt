@@ -1,52 +1,69 @@
 // The beginning of a unit, and states without a deal.
-ghost use Prim.Native.Nat.{ℕ};
 ghost use mathlib.Core.Path.{_≡_};
+ghost use Prim.Native.Nat.{ℕ};
+ghost use lib.ListN.{length};
 ghost use Rattle.pair_model.specs.Base.{base};
 ghost use Rattle.pair_model.specs.Frame.{parameters};
 ghost use Rattle.pair_model.specs.Unit.{state, halves, nothing, begin, beginNumber};
 ghost use Rattle.pair_model.specs.Run.{protocol};
 ghost use Rattle.pair_model.specs.Theorem.{Begins, Privacy};
-ghost use Rattle.pair_units.specs.Units.{unitOf};
+ghost use Rattle.pair_frames.specs.Headers.{parametersIn};
+ghost use Rattle.pair_frames.specs.Schemes.{schemeOf, Fits};
+ghost use Rattle.pair_units.specs.Units.{stateAt, unitOf};
 use crate::state::IDLE;
 use crate::state::UnitState;
 use crate::state::WAITS_FOR_DEAL;
+use linear_words::bytes::put;
 use numbers::table::DONE;
 use numbers::table::NO_SIDE;
 use numbers::table::WRONG_LENGTH;
-use pair_frames::bytes::array_32;
-use pair_frames::sizes::INNER_BYTES;
-use pair_frames::sizes::KEY_BYTES;
-use pair_frames::sizes::TRITS_BYTES;
+use pair_frames::parameters::Parameters;
+use pair_frames::sizes::BASE;
+use pair_frames::sizes::INNER_ROOM;
+use pair_frames::sizes::KEY_ROOM;
+use pair_frames::sizes::Sizes;
+use pair_frames::sizes::TRITS_ROOM;
 
 // A state with these halves, and no deal.
 pub fn with_halves(
-    side: u8,
-    session: u32,
+    sizes: Sizes,
+    parameters: Parameters,
     stage: u8,
-    key: [u8; KEY_BYTES],
-    label: [u8; KEY_BYTES],
+    key: &[u8],
+    label: &[u8],
 ) -> UnitState
-    ensures { λ u. ⌜ u ≡ unitOf (state (parameters side session) stage (halves base key label)) ⌝ }
+    requires { ⌜ Fits sizes × (length (now key) ≡ sizes .«key_bytes») × (length (now label) ≡ sizes .«key_bytes») ⌝ }
+    ensures { λ u. ⌜
+        stateAt sizes u ≡ state (parametersIn parameters) stage (halves (schemeOf sizes) (now (key .entry)) (now (label .entry)))
+        ⌝ }
 {
+    let n = sizes.key_bytes;
+    let mut key_half = [0u8; KEY_ROOM];
+    let mut label_half = [0u8; KEY_ROOM];
+    put(&key[..n], &mut key_half, 0);
+    put(&label[..n], &mut label_half, 0);
     UnitState {
-        side: side,
-        session: session,
+        parameters: parameters,
         stage: stage,
-        key: key,
-        label: label,
-        key_mask: [0u8; KEY_BYTES],
-        label_mask: [0u8; KEY_BYTES],
-        z: [0u8; INNER_BYTES],
-        r: [0u8; TRITS_BYTES],
-        own_mask: [0u8; INNER_BYTES],
+        key: key_half,
+        label: label_half,
+        key_mask: [0u8; KEY_ROOM],
+        label_mask: [0u8; KEY_ROOM],
+        z: [0u8; INNER_ROOM],
+        r: [0u8; TRITS_ROOM],
+        own_mask: [0u8; INNER_ROOM],
     }
 }
 
-// Zeros for all but the side, the session and the stage.
-pub fn cleared(side: u8, session: u32, stage: u8) -> UnitState
-    ensures { λ u. ⌜ u ≡ unitOf (state (parameters side session) stage (nothing base)) ⌝ }
+// Zeros for all but the parameters and the stage.
+pub fn cleared(sizes: Sizes, parameters: Parameters, stage: u8) -> UnitState
+    requires { ⌜ Fits sizes ⌝ }
+    ensures { λ u. ⌜ stateAt sizes u ≡ state (parametersIn parameters) stage (nothing (schemeOf sizes)) ⌝ }
 {
-    with_halves(side, session, stage, [0u8; KEY_BYTES], [0u8; KEY_BYTES])
+    let n = sizes.key_bytes;
+    let zeros = [0u8; KEY_ROOM];
+    let half = &zeros[..n];
+    with_halves(sizes, parameters, stage, half, half)
 }
 
 // What a beginning returns and gives.
@@ -56,37 +73,54 @@ pub struct Begun {
 }
 
 // The number of a beginning.
-fn begin_number(side: u32, key: &[u8], label: &[u8]) -> u32
-    ensures { λ r. ⌜ ((session : ℕ) → r ≡ beginNumber base (parameters side session) (now (key .entry)) (now (label .entry))) ⌝ }
+fn begin_number(sizes: Sizes, side: u32, key: &[u8], label: &[u8]) -> u32
+    ensures { λ r. ⌜
+        ((session : ℕ) → r ≡ beginNumber (schemeOf sizes) (parameters side session) (now (key .entry)) (now (label .entry)))
+        ⌝ }
 {
-    if key.len() != KEY_BYTES {
+    if key.len() != sizes.key_bytes {
         return WRONG_LENGTH;
     }
-    if label.len() != KEY_BYTES {
+    if label.len() != sizes.key_bytes {
         return WRONG_LENGTH;
     }
     if 1 < side { NO_SIDE } else { DONE }
 }
 
-// A unit of this side and session with these halves, or the idle state. Beginnings of runs are accepted, and the state that is given
-// stands in the view that `Privacy` speaks of.
+// A unit of this side and session with these halves, or the idle state.
+pub fn begin_unit(sizes: Sizes, side: u32, session: u32, key: &[u8], label: &[u8]) -> Begun
+    requires { ⌜ Fits sizes ⌝ }
+    ensures result { λ b. ⌜ b .result ≡ begin (schemeOf sizes) (parameters side session) (now (key .entry)) (now (label .entry)) .result ⌝ }
+    ensures next { λ b. ⌜ stateAt sizes (b .next) ≡ begin (schemeOf sizes) (parameters side session) (now (key .entry)) (now (label .entry)) .next ⌝ }
+{
+    let number = begin_number(sizes, side, key, label);
+    if number != DONE {
+        let nobody = Parameters {
+            side: 0,
+            session: 0,
+        };
+        return Begun {
+            result: number,
+            next: cleared(sizes, nobody, IDLE),
+        };
+    }
+    let parameters = Parameters {
+        side: (side % 256) as u8,
+        session: session,
+    };
+    Begun {
+        result: DONE,
+        next: with_halves(sizes, parameters, WAITS_FOR_DEAL, key, label),
+    }
+}
+
+// The same at the sizes of document 01. Beginnings of runs are accepted, and the state that is given stands in the view that `Privacy`
+// speaks of.
 pub fn begin(side: u32, session: u32, key: &[u8], label: &[u8]) -> Begun
     ensures result { λ b. ⌜ b .result ≡ begin base (parameters side session) (now (key .entry)) (now (label .entry)) .result ⌝ }
     ensures next { λ b. ⌜ b .next ≡ unitOf (begin base (parameters side session) (now (key .entry)) (now (label .entry)) .next) ⌝ }
     ensures begins { λ _. ⌜ Begins (protocol base) ⌝ }
     ensures privacy { λ _. ⌜ Privacy (protocol base) ⌝ }
 {
-    let number = begin_number(side, key, label);
-    if number != DONE {
-        return Begun {
-            result: number,
-            next: cleared(0, 0, IDLE),
-        };
-    }
-    let first = array_32(key, 0);
-    let second = array_32(label, 0);
-    Begun {
-        result: DONE,
-        next: with_halves((side % 256) as u8, session, WAITS_FOR_DEAL, first, second),
-    }
+    begin_unit(BASE, side, session, key, label)
 }

@@ -1,7 +1,8 @@
 // The state of a unit.
-use pair_frames::sizes::INNER_BYTES;
-use pair_frames::sizes::KEY_BYTES;
-use pair_frames::sizes::TRITS_BYTES;
+use pair_frames::parameters::Parameters;
+use pair_frames::sizes::INNER_ROOM;
+use pair_frames::sizes::KEY_ROOM;
+use pair_frames::sizes::TRITS_ROOM;
 
 // The stages: the kind of frame that the unit waits for, or none.
 pub const IDLE: u8 = 0;
@@ -14,16 +15,15 @@ pub const WAITS_FOR_MASK: u8 = 3;
 
 pub const FINISHED: u8 = 4;
 
-// Side, session, stage, the two halves, the deal and the own mask ŵi.
+// The parameters, the stage, and the two halves, the deal and the own mask ŵi, each in the front of its room.
 pub struct UnitState {
-    pub side: u8,
-    pub session: u32,
+    pub parameters: Parameters,
     pub stage: u8,
-    pub key: [u8; KEY_BYTES],
-    pub label: [u8; KEY_BYTES],
-    pub key_mask: [u8; KEY_BYTES],
-    pub label_mask: [u8; KEY_BYTES],
-    pub z: [u8; INNER_BYTES],
-    pub r: [u8; TRITS_BYTES],
-    pub own_mask: [u8; INNER_BYTES],
+    pub key: [u8; KEY_ROOM],
+    pub label: [u8; KEY_ROOM],
+    pub key_mask: [u8; KEY_ROOM],
+    pub label_mask: [u8; KEY_ROOM],
+    pub z: [u8; INNER_ROOM],
+    pub r: [u8; TRITS_ROOM],
+    pub own_mask: [u8; INNER_ROOM],
 }

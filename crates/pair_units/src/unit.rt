@@ -13,6 +13,7 @@ use crate::state::UnitState;
 use crate::steps::advance;
 use numbers::table::DONE;
 use pair_conditions::conditions::step_number;
+use pair_frames::sizes::BASE;
 
 // What a step returns, how much it wrote, and the next state.
 pub struct Stepped {
@@ -38,7 +39,8 @@ impl UnitState {
         ensures three_frames { λ _. ⌜ ThreeFrames (protocol base) ⌝ }
         ensures evidence { λ _. ⌜ Evidence ⌝ }
     {
-        let number = step_number(self.side, self.session, self.stage, f, file, out.len());
+        let parameters = self.parameters;
+        let number = step_number(BASE, parameters, self.stage, f, file, out.len());
         if number != DONE {
             return Stepped {
                 result: number,
@@ -46,7 +48,7 @@ impl UnitState {
                 next: self,
             };
         }
-        let a = advance(self, f, file, out);
+        let a = advance(BASE, self, f, file, out);
         let next = a.next;
         Stepped {
             result: DONE,

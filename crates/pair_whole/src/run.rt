@@ -10,10 +10,12 @@ ghost use Rattle.pair_model.specs.Frame.{sharedParameters, parameters, maskKind
 ghost use Rattle.pair_model.specs.Unit.{begin, leastOutput, stepNumber, step, takeMask};
 ghost use Rattle.pair_model.specs.WholeRun.{inputKey, inputLabel, inputTape, inputFile, runNumber, runCode};
 ghost use Rattle.pair_model.specs.Internal.Exchange.{Sends, RunFits};
+ghost use Rattle.pair_frames.specs.Headers.{parametersIn};
 ghost use Rattle.pair_units.specs.Units.{stateOf};
 use numbers::table::DONE;
 use pair_counter::join::add_shares;
 use pair_dealer::dealer::deal;
+use pair_frames::sizes::BASE;
 use pair_frames::sizes::DEAL_FRAME_BYTES;
 use pair_frames::sizes::DEALT_BYTES;
 use pair_frames::sizes::INPUT_BYTES;
@@ -27,7 +29,7 @@ use pair_frames::sizes::MASK_FRAME_BYTES;
 use pair_frames::sizes::OPEN_FRAME_BYTES;
 use pair_frames::sizes::SHARE_FRAME_BYTES;
 use pair_input::input::run_number;
-use pair_units::begin::begin;
+use pair_units::begin::begin_unit;
 use pair_units::state::UnitState;
 use pair_units::steps::advance;
 use pair_units::steps::take_mask;
@@ -40,11 +42,11 @@ struct Sent {
 
 // A step at a frame that is accepted, so that it is not judged again.
 fn send(u: UnitState, f: &[u8], file: &[u8]) -> Sent
-    requires { ⌜ stepNumber base (parameters (u .side) (u .session)) (u .stage) (now f) (files (now file)) (leastOutput base) ≡ 0 ⌝ }
+    requires { ⌜ stepNumber base (parametersIn (u .parameters)) (u .stage) (now f) (files (now file)) (leastOutput base) ≡ 0 ⌝ }
     ensures { λ r. ⌜ Sends (step base (stateOf u) (now (f .entry)) (files (now (file .entry))) (leastOutput base)) (r .frame) (stateOf (r .next)) ⌝ }
 {
     let mut frame = [0u8; OPEN_FRAME_BYTES];
-    let a = advance(u, f, file, &mut frame);
+    let a = advance(BASE, u, f, file, &mut frame);
     let next = a.next;
     Sent {
         frame: frame,
@@ -80,8 +82,8 @@ fn both(first: Sent, second: Sent) -> Round
 // Each unit takes what the other has sent.
 fn exchange(b: Round, file: &[u8]) -> Round
     requires { ⌜
-        (stepNumber base (parameters (b .next0 .side) (b .next0 .session)) (b .next0 .stage) (b .frame1) (files (now file)) (leastOutput base) ≡ 0)
-        × (stepNumber base (parameters (b .next1 .side) (b .next1 .session)) (b .next1 .stage) (b .frame0) (files (now file)) (leastOutput base) ≡ 0)
+        (stepNumber base (parametersIn (b .next0 .parameters)) (b .next0 .stage) (b .frame1) (files (now file)) (leastOutput base) ≡ 0)
+        × (stepNumber base (parametersIn (b .next1 .parameters)) (b .next1 .stage) (b .frame0) (files (now file)) (leastOutput base) ≡ 0)
         ⌝ }
     ensures first { λ r. ⌜ Sends (step base (stateOf (b .next0)) (b .frame1) (files (now (file .entry))) (leastOutput base)) (r .frame0) (stateOf (r .next0)) ⌝ }
     ensures second { λ r. ⌜ Sends (step base (stateOf (b .next1)) (b .frame0) (files (now (file .entry))) (leastOutput base)) (r .frame1) (stateOf (r .next1)) ⌝ }
@@ -106,7 +108,7 @@ fn start(side: u32, key: &[u8], label: &[u8], f: &[u8], file: &[u8]) -> Sent
         (r .frame) (stateOf (r .next))
         ⌝ }
 {
-    let b = begin(side, 1, key, label);
+    let b = begin_unit(BASE, side, 1, key, label);
     let u = b.next;
     send(u, f, file)
 }
@@ -153,7 +155,7 @@ fn share_frame(u: UnitState, sent: [u8; OPEN_FRAME_BYTES], file: &[u8]) -> [u8; 
     ensures { λ r. ⌜ r ≡ takeMask base (stateOf u) (bodyOf (take (frameBytes base maskKind) sent)) (files (now (file .entry))) .written ⌝ }
 {
     let mut frame = [0u8; SHARE_FRAME_BYTES];
-    take_mask(u, &sent[0..MASK_FRAME_BYTES], file, &mut frame);
+    take_mask(BASE, u, &sent[0..MASK_FRAME_BYTES], file, &mut frame);
     frame
 }
 

@@ -16,11 +16,12 @@ ghost use Rattle.pair_model.specs.Calls.{StatesFit, CallsAreRuns};
 use numbers::table::DONE;
 use numbers::table::WRONG_LENGTH;
 use pair_conditions::conditions::step_number;
-use pair_frames::frame::session_of;
+use pair_frames::frame::parameters_of;
+use pair_frames::sizes::BASE;
 use pair_frames::sizes::STATE_BYTES;
 use pair_states::slices::advance_slice;
 use pair_states::slices::encode;
-use pair_units::begin::begin;
+use pair_units::begin::begin_unit;
 
 // Begins a unit in a slice. A refused beginning writes the idle state, since an old state would go on accepting frames; only a slice of
 // another length stays as it was. The slice then stands for the model's state, and lists of both calls are runs of the theorem.
@@ -51,7 +52,7 @@ pub extern "C" fn pair_begin(
     if state.len() != STATE_BYTES {
         return WRONG_LENGTH;
     }
-    let b = begin(side, session, key, label);
+    let b = begin_unit(BASE, side, session, key, label);
     let next = b.next;
     encode(next, state);
     b.result
@@ -93,7 +94,7 @@ pub extern "C" fn pair_step(
     if state.len() != STATE_BYTES {
         return WRONG_LENGTH;
     }
-    let number = step_number(state[1], session_of(state), state[0], f, file, out.len());
+    let number = step_number(BASE, parameters_of(state), state[0], f, file, out.len());
     if number != DONE {
         return number;
     }

@@ -6,8 +6,8 @@ use borrow.Author.Needs.{needs}
 use borrow.Author.Tests.{eq-eqb}
 use lib.Dec.{eqb→eq}
 use Rattle.numbers.proofs.Numbers.{holds}
+use Rattle.pair_frames.specs.Schemes.{schemeOf}
 use Rattle.pair_model.specs.Scheme.{files}
-use Rattle.pair_model.specs.Base.{base}
 use Rattle.pair_model.specs.Frame.{maskKind, frameBytes}
 use Rattle.pair_model.proofs.Internal.Contents.{check-number, faults-number, content-rows, content-none, content-deal}
 use Rattle.pair_conditions.proofs.conditions.content_number.Statement.{statement}
@@ -16,29 +16,30 @@ use Rattle.pair_conditions.proofs.conditions.content_number.Tie as tie
 returns : tie.Need-returns
 returns c =
     let s = c .before .before .before .before .before in
+    let S = schemeOf (s .args .sizes) in
+    let lent = files (s .args .file .now) in
     let r = eqb→eq _ maskKind (holds _ (sym (c .before .before .reads-file .ensures) ∙ c .before .if1 .taken)) in
-    c .matrix-check .ensures ∙ check-number (s .args .file .now) ∙ faults-number (base .rowsReading) (files (s .args .file .now)) (s .pre .1 r)
-    ∙ content-rows base (s .args .f .now) (files (s .args .file .now)) r
+    c .matrix-check .ensures ∙ check-number (s .args .file .now) ∙ faults-number (S .rowsReading) lent (s .pre .2 r) ∙ content-rows S (s .args .f .now) lent r
 
 returns-2 : tie.Need-returns-2
 returns-2 c =
     let a = c .before .before .before .before .before .before .args in
-    content-none base refl (a .f .now) (files (a .file .now)) (λ e. false≢true (sym (sym (c .before .before .before .reads-file .ensures) ∙ c .before .before .if1 .left) ∙ eq-eqb _ _ e)) (c .if2 .taken)
+    content-none (schemeOf (a .sizes)) refl (a .f .now) (files (a .file .now)) (λ e. false≢true (sym (sym (c .before .before .before .reads-file .ensures) ∙ c .before .before .if1 .left) ∙ eq-eqb _ _ e)) (c .if2 .taken)
 
 r-of-deal-requires : tie.Need-r-of-deal-requires
-r-of-deal-requires c κs = c .before .before .before .before .before .before .pre .0 ∙ ap (frameBytes base) (c .if2 .left)
+r-of-deal-requires c κs = let s = c .before .before .before .before .before .before in (s .pre .0, s .pre .1 ∙ ap (frameBytes (schemeOf (s .args .sizes))) (c .if2 .left))
 
 returns-3 : tie.Need-returns-3
 returns-3 c =
-    let d = c .before .before .before in
+    let d = c .before .before .before .before in
     let s = d .before .before .before .before .before .before in
-    content-deal base (s .args .f .now) (files (s .args .file .now)) (d .if2 .left) (s .pre .0) _ _ (c .before .before .r-of-deal .ensures) (sym (c .if3 .taken) ∙ c .before .trits-fit .ensures)
+    content-deal (schemeOf (s .args .sizes)) (s .args .f .now) (files (s .args .file .now)) (d .if2 .left) (s .pre .1) _ _ (c .before .before .before .r-of-deal .ensures) (sym (c .if3 .taken) ∙ c .before .trits-fit .ensures)
 
 returns-4 : tie.Need-returns-4
 returns-4 c =
-    let d = c .before .before .before in
+    let d = c .before .before .before .before in
     let s = d .before .before .before .before .before .before in
-    content-deal base (s .args .f .now) (files (s .args .file .now)) (d .if2 .left) (s .pre .0) _ _ (c .before .before .r-of-deal .ensures) (sym (c .if3 .left) ∙ c .before .trits-fit .ensures)
+    content-deal (schemeOf (s .args .sizes)) (s .args .f .now) (files (s .args .file .now)) (d .if2 .left) (s .pre .1) _ _ (c .before .before .before .r-of-deal .ensures) (sym (c .if3 .left) ∙ c .before .trits-fit .ensures)
 
 pub content-number-spec : {M : Type 1} → statement M
 content-number-spec =
@@ -47,9 +48,10 @@ content-number-spec =
     (λ c κs. search needs)
     (λ c κs. search needs)
     returns
-    (λ c. omega (arith, c .before .before .before .before .before .pre .0))
+    (λ c. search needs)
     returns-2
     r-of-deal-requires
+    (λ c. search needs)
     (λ c κs. search needs)
     returns-3
     returns-4)

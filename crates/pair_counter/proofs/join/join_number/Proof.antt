@@ -8,6 +8,7 @@ use borrow.Author.Tests.{le-ltb, eq-eqb, ne-eqb}
 use lib.ListN.{length}
 use Rattle.numbers.specs.Number.{first}
 use Rattle.pair_frames.specs.Headers.{headerOf}
+use Rattle.pair_frames.proofs.Bases.{base-fits}
 use Rattle.pair_model.specs.Base.{base}
 use Rattle.pair_model.specs.Frame.{shareKind, codeBytes}
 use Rattle.pair_model.specs.Header.{fields, headerNumber}
@@ -110,8 +111,8 @@ join-number-spec =
     tie.close
     (tie.spec
     returns
-    (λ c κs. search needs)
-    (λ c κs. search needs)
+    (λ c κs. base-fits)
+    (λ c κs. base-fits)
     (λ c κs. search needs)
     (λ c κs. search needs)
     (λ c κs. search needs)

@@ -13,8 +13,7 @@ use Rattle.pair_model.specs.StateSlice.{encodeState, decodeState}
 use Rattle.pair_model.proofs.Theorem.StepLaws.{fits}
 use Rattle.pair_model.proofs.Internal.Lengths.{deal-length}
 use Rattle.pair_model.proofs.Internal.Advances.{advance-deal}
-use Rattle.pair_units.specs.declared.state.UnitState.{UnitState}
-use Rattle.pair_units.specs.Units.{stateOf}
+use Rattle.pair_frames.proofs.Bases.{base-fits, base-fits-file}
 use Rattle.pair_states.proofs.slices.advance_slice.Statement.{statement}
 use Rattle.pair_states.proofs.slices.advance_slice.Tie as tie
 
@@ -34,7 +33,7 @@ take-deal-requires c κs =
     let s = c .before .before .before .before .before .before .before .before .before in
     let a = s .args in
     let h = fits base (parameters (sideOf (a .state .now)) (sessionOf (a .state .now))) (kindOf (a .state .now)) (a .f .now) (files (a .file .now)) (length (a .out .now)) (s .pre .1) in
-    (h .frame-length ∙ ap (frameBytes base) (c .before .before .before .if1 .taken), h .room)
+    (base-fits, h .frame-length ∙ ap (frameBytes base) (c .before .before .before .if1 .taken), h .room)
 
 returns : tie.Need-returns
 returns c =
@@ -42,11 +41,11 @@ returns c =
     let s = a .state .now in
     let b = bodyOf (a .f .now) in
     let v = c .before .before .before .before .before .before .take-deal .ensures in
-    let d : stateOf (c .before .before .before .before .before .before .before .before .decode .result) ≡ decodeState base s = ap stateOf (c .before .before .before .before .before .before .before .before .decode .ensures) in
+    let d = c .before .before .before .before .before .before .before .before .decode .ensures in
     let e = sym (advance-deal base (decodeState base s) b (files (a .file .now)) (waits s (c .before .before .before .before .before .before .before .before .before .before .if1 .taken))) in (
       deal-length base (decodeState base s) b ∙ ap (λ (t : Stepped). length (t .written)) e,
       (
-        c .before .before .encode .ensures ∙ ap (λ (u : UnitState). encodeState (stateOf u)) (v .0)
+        c .before .before .encode .ensures ∙ ap encodeState (v .0)
             ∙ ap (λ (u : State). encodeState (takeDeal base u b .next)) d ∙ ap (λ (t : Stepped). encodeState (t .next)) e,
         v .1 ∙ ap (λ (u : State). atFront (takeDeal base u b .written) (a .out .now)) d ∙ ap (λ (t : Stepped). atFront (t .written) (a .out .now)) e,
       ),
@@ -56,9 +55,12 @@ advance-requires : tie.Need-advance-requires
 advance-requires c κs =
     let s = c .before .before .before .before .before .before .before .before .before in
     let a = s .args in
-    let m = length (a .out .now) in
-    ap (λ (u : UnitState). stepNumber base (stateOf u .parameters) (stateOf u .stage) (a .f .now) (files (a .file .now)) m) (c .before .decode2 .ensures)
-    ∙ of-state (a .state .now) (a .f .now) (files (a .file .now)) m (s .pre .1)
+    let m = length (a .out .now) in (
+      base-fits,
+      base-fits-file,
+      ap (λ (u : State). stepNumber base (u .parameters) (u .stage) (a .f .now) (files (a .file .now)) m) (c .before .decode2 .ensures)
+          ∙ of-state (a .state .now) (a .f .now) (files (a .file .now)) m (s .pre .1),
+    )
 
 returns-2 : tie.Need-returns-2
 returns-2 c =
@@ -66,10 +68,10 @@ returns-2 c =
     let s = a .state .now in
     let b = bodyOf (a .f .now) in
     let v = c .before .before .before .before .before .before .before .advance .ensures in
-    let d : stateOf (c .before .before .before .before .before .before .before .before .before .decode2 .result) ≡ decodeState base s = ap stateOf (c .before .before .before .before .before .before .before .before .before .decode2 .ensures) in (
+    let d = c .before .before .before .before .before .before .before .before .before .decode2 .ensures in (
       v .0 ∙ ap (λ (u : State). length (advance base u b (files (a .file .now)) .written)) d,
       (
-        c .before .before .encode2 .ensures ∙ ap (λ (u : UnitState). encodeState (stateOf u)) (v .1 .0)
+        c .before .before .encode2 .ensures ∙ ap encodeState (v .1 .0)
             ∙ ap (λ (u : State). encodeState (advance base u b (files (a .file .now)) .next)) d,
         v .1 .1 ∙ ap (λ (u : State). atFront (advance base u b (files (a .file .now)) .written) (a .out .now)) d,
       ),
@@ -80,13 +82,13 @@ advance-slice-spec =
     tie.close
     (tie.spec
     (λ c. search needs)
-    (λ c κs. search needs)
+    (λ c κs. (base-fits, c .before .before .before .before .before .before .before .pre .0))
     take-deal-requires
     (λ c κs. search needs)
     (λ c. search needs)
     (λ c. search needs)
     returns
-    (λ c κs. search needs)
+    (λ c κs. (base-fits, c .before .before .before .before .before .before .before .pre .0))
     advance-requires
     (λ c κs. search needs)
     (λ c. search needs)

@@ -5,73 +5,84 @@ use native.Mathlib.Omega.{arith}
 use borrow.Author.Needs.{needs}
 use lib.ListN.{length}
 use Rattle.numbers.specs.Number.{atFront}
+use Rattle.pair_frames.specs.Schemes.{schemeOf}
 use Rattle.pair_model.specs.Scheme.{files, noFiles}
-use Rattle.pair_model.specs.Base.{base}
-use Rattle.pair_model.specs.Frame.{parameters, frameBytes, bodyOf}
+use Rattle.pair_model.specs.Frame.{frameBytes, bodyOf}
 use Rattle.pair_model.specs.Unit.{Stepped, stepReading}
 use Rattle.pair_model.proofs.Theorem.StepLaws.{fits}
 use Rattle.pair_model.proofs.Internal.Lengths.{deal-length, open-length, share-length}
 use Rattle.pair_model.proofs.Internal.Advances.{advance-deal, advance-open, advance-mask}
-use Rattle.pair_units.specs.Units.{stateOf, unitOf}
+use Rattle.pair_units.specs.Units.{stateAt}
 use Rattle.pair_units.proofs.steps.advance.Statement.{statement}
 use Rattle.pair_units.proofs.steps.advance.Tie as tie
 
 take-deal-requires : tie.Need-take-deal-requires
 take-deal-requires c κs =
     let s = c .before .before .before .before .before in
-    let u = s .args .u in
-    let h = fits base (parameters (u .side) (u .session)) (u .stage) (s .args .f .now) (files (s .args .file .now)) (length (s .args .out .now)) (s .pre) in
-    (h .frame-length ∙ ap (frameBytes base) (c .before .if1 .taken), h .room)
+    let a = s .args in
+    let S = schemeOf (a .sizes) in
+    let u = stateAt (a .sizes) (a .u) in
+    let h = fits S (u .parameters) (u .stage) (a .f .now) (files (a .file .now)) (length (a .out .now)) (s .pre .2) in
+    (s .pre .0, h .frame-length ∙ ap (frameBytes S) (c .before .if1 .taken), h .room)
 
 returns : tie.Need-returns
 returns c =
-    let a = c .before .before .before .before .before .before .before .before .args in
-    let u = stateOf (a .u) in
+    let a = c .before .before .before .before .before .before .before .before .before .args in
+    let S = schemeOf (a .sizes) in
+    let u = stateAt (a .sizes) (a .u) in
     let b = bodyOf (a .f .now) in
-    let e = sym (advance-deal base u b (files (a .file .now)) (c .before .before .before .before .if1 .taken)) in
-    let t = c .before .before .take-deal .ensures in (
-      deal-length base u b ∙ ap (λ (s : Stepped). length (s .written)) e,
-      (t .0 ∙ ap (λ (s : Stepped). unitOf (s .next)) e, t .1 ∙ ap (λ (s : Stepped). atFront (s .written) (a .out .now)) e),
+    let e = sym (advance-deal S u b (files (a .file .now)) (c .before .before .before .before .before .if1 .taken)) in
+    let t = c .before .before .before .take-deal .ensures in (
+      c .frame-bytes .ensures ∙ deal-length S u b ∙ ap (λ (s : Stepped). length (s .written)) e,
+      (t .0 ∙ ap (λ (s : Stepped). s .next) e, t .1 ∙ ap (λ (s : Stepped). atFront (s .written) (a .out .now)) e),
     )
 
 take-open-requires : tie.Need-take-open-requires
 take-open-requires c κs =
     let s = c .before .before .before .before .before .before in
-    let u = s .args .u in
-    let h = fits base (parameters (u .side) (u .session)) (u .stage) (s .args .f .now) (files (s .args .file .now)) (length (s .args .out .now)) (s .pre) in
-    (h .frame-length ∙ ap (frameBytes base) (c .before .if2 .taken), h .room)
+    let a = s .args in
+    let S = schemeOf (a .sizes) in
+    let u = stateAt (a .sizes) (a .u) in
+    let h = fits S (u .parameters) (u .stage) (a .f .now) (files (a .file .now)) (length (a .out .now)) (s .pre .2) in
+    (s .pre .0, h .frame-length ∙ ap (frameBytes S) (c .before .if2 .taken), h .room)
 
 returns-2 : tie.Need-returns-2
 returns-2 c =
-    let a = c .before .before .before .before .before .before .before .before .before .args in
-    let u = stateOf (a .u) in
+    let a = c .before .before .before .before .before .before .before .before .before .before .args in
+    let S = schemeOf (a .sizes) in
+    let u = stateAt (a .sizes) (a .u) in
     let b = bodyOf (a .f .now) in
-    let e = sym (advance-open base u b (files (a .file .now)) noFiles refl (c .before .before .before .before .if2 .taken)) in
-    let t = c .before .before .take-open .ensures in (
-      open-length base u b _ ∙ ap (λ (s : Stepped). length (s .written)) e,
-      (t .0 ∙ ap (λ (s : Stepped). unitOf (s .next)) e, t .1 ∙ ap (λ (s : Stepped). atFront (s .written) (a .out .now)) e),
+    let e = sym (advance-open S u b (files (a .file .now)) noFiles refl (c .before .before .before .before .before .if2 .taken)) in
+    let t = c .before .before .before .take-open .ensures in (
+      c .frame-bytes2 .ensures ∙ open-length S u b noFiles ∙ ap (λ (s : Stepped). length (s .written)) e,
+      (t .0 ∙ ap (λ (s : Stepped). s .next) e, t .1 ∙ ap (λ (s : Stepped). atFront (s .written) (a .out .now)) e),
     )
 
 take-mask-requires : tie.Need-take-mask-requires
 take-mask-requires c κs =
     let s = c .before .before .before .before .before .before in
-    let u = s .args .u in
-    let h = fits base (parameters (u .side) (u .session)) (u .stage) (s .args .f .now) (files (s .args .file .now)) (length (s .args .out .now)) (s .pre) in
+    let a = s .args in
+    let S = schemeOf (a .sizes) in
+    let u = stateAt (a .sizes) (a .u) in
+    let h = fits S (u .parameters) (u .stage) (a .f .now) (files (a .file .now)) (length (a .out .now)) (s .pre .2) in
     let m : u .stage ≡ 3 = omega (arith, h .low, h .high) in
-    (h .frame-length ∙ ap (frameBytes base) m, omega (arith, h .room), subst (λ (kind : ℕ). length (stepReading base kind .content (files (s .args .file .now))) ≡ stepReading base kind .bytes) m (h .read-length))
+    let f = s .pre .1 in
+    (s .pre .0, f, h .frame-length ∙ ap (frameBytes S) m, omega (arith, h .room, s .pre .0 .key, s .pre .0 .circulant, f .digits, f .inner), subst (λ (kind : ℕ). length (stepReading S kind .content (files (a .file .now))) ≡ stepReading S kind .bytes) m (h .read-length))
 
 returns-3 : tie.Need-returns-3
 returns-3 c =
-    let s = c .before .before .before .before .before .before .before .before .before in
+    let s = c .before .before .before .before .before .before .before .before .before .before in
     let a = s .args in
-    let u = stateOf (a .u) in
+    let S = schemeOf (a .sizes) in
+    let lent = files (a .file .now) in
+    let u = stateAt (a .sizes) (a .u) in
     let b = bodyOf (a .f .now) in
-    let h = fits base (u .parameters) (u .stage) (a .f .now) (files (a .file .now)) (length (a .out .now)) (s .pre) in
+    let h = fits S (u .parameters) (u .stage) (a .f .now) lent (length (a .out .now)) (s .pre .2) in
     let m : u .stage ≡ 3 = omega (arith, h .low, h .high) in
-    let e = sym (advance-mask base u b (files (a .file .now)) m) in
-    let t = c .before .before .take-mask .ensures in (
-      share-length base u b (files (a .file .now)) ∙ ap (λ (s : Stepped). length (s .written)) e,
-      (t .0 ∙ ap (λ (s : Stepped). unitOf (s .next)) e, t .1 ∙ ap (λ (s : Stepped). atFront (s .written) (a .out .now)) e),
+    let e = sym (advance-mask S u b lent m) in
+    let t = c .before .before .before .take-mask .ensures in (
+      c .frame-bytes3 .ensures ∙ share-length S u b lent ∙ ap (λ (s : Stepped). length (s .written)) e,
+      (t .0 ∙ ap (λ (s : Stepped). s .next) e, t .1 ∙ ap (λ (s : Stepped). atFront (s .written) (a .out .now)) e),
     )
 
 pub advance-spec : {M : Type 1} → statement M
@@ -79,11 +90,14 @@ advance-spec =
     tie.close
     (tie.spec
     take-deal-requires
+    (λ c κs. search needs)
     (λ c. search needs)
     returns
     take-open-requires
+    (λ c κs. search needs)
     (λ c. search needs)
     returns-2
     take-mask-requires
+    (λ c κs. search needs)
     (λ c. search needs)
     returns-3)

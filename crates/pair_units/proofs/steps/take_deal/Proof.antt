@@ -1,52 +1,83 @@
 -- `pair_units::steps::take_deal` meets its contract: the open frame has the halves under the deal's masks.
 use mathlib.Core.Path.{ap, _∙_}
-use mathlib.Core.List.{[], _∷_, _++_}
-use Prim.Native.Nat.{ℕ}
+use mathlib.Core.List.{List, [], _∷_, _++_}
+use Prim.Native.Nat.{ℕ, _+_}
+use native.Mathlib.Omega.{arith}
 use borrow.Author.Needs.{needs}
-use lib.ListN.{drop}
+use lib.Dec.{lit<}
+use lib.ListN.{length, take, drop}
 use Rattle.linear_model.specs.Bits.{zeros, addBits}
+use Rattle.pair_frames.specs.Headers.{parametersIn}
+use Rattle.pair_frames.specs.Schemes.{schemeOf}
+use Rattle.pair_frames.proofs.Parts.{field-part}
 use Rattle.pair_model.specs.Scheme.{concat}
-use Rattle.pair_model.specs.Base.{base}
-use Rattle.pair_model.specs.Frame.{parameters, openKind, frame, frameBytes, bodyOf}
+use Rattle.pair_model.specs.Tape.{dealLayout}
+use Rattle.pair_model.specs.Frame.{openKind, frame, frameBytes, bodyOf}
 use Rattle.pair_model.specs.Unit.{state, takeDeal}
 use Rattle.pair_model.proofs.Internal.Lengths.{deal-length}
-use Rattle.pair_units.specs.Units.{stateOf, unitOf}
+use Rattle.pair_units.specs.Units.{stateAt}
+use Rattle.pair_units.proofs.Rooms.{full, prefix, prefix-long, zeros-front}
 use Rattle.pair_units.proofs.steps.take_deal.Statement.{statement}
 use Rattle.pair_units.proofs.steps.take_deal.Tie as tie
+
+array-share-prefix-key : tie.Need-array-share-prefix-key
+array-share-prefix-key c = let s = c .before .before .before .before .before .before .before in prefix (s .args .u .key) (full (s .args .u) _ (s .good .1 .0) .key) (s .pre .0 .key)
+
+slice-aggregate-write-open-frame : tie.Need-slice-aggregate-write-open-frame
+slice-aggregate-write-open-frame c = let s = c .before .before .before .before .before .before .before .before in prefix-long (s .args .sizes .«key_bytes») (s .args .u .key) (full (s .args .u) _ (s .good .1 .0) .key) (s .pre .0 .key)
+
+array-share-prefix-label : tie.Need-array-share-prefix-label
+array-share-prefix-label c = let s = c .before .before .before .before .before .before .before .before in prefix (s .args .u .label) (full (s .args .u) _ (s .good .1 .0) .label) (s .pre .0 .key)
+
+slice-aggregate-write-open-frame-2 : tie.Need-slice-aggregate-write-open-frame-2
+slice-aggregate-write-open-frame-2 c = let s = c .before .before .before .before .before .before .before .before .before in prefix-long (s .args .sizes .«key_bytes») (s .args .u .label) (full (s .args .u) _ (s .good .1 .0) .label) (s .pre .0 .key)
 
 returns : tie.Need-returns
 unfolding takeDeal
 returns c =
-    let x = c .before .before .before .before .before .before in
-    let d = x .before .before .before .before .before .before .before .before .read-deal .ensures in
-    let a = x .before .before .before .before .before .before .before .before .before .before .before .args in
-    let u = a .u in
+    let s = c .before .before .before .before .before .before .before .before .before .before .before .before .before .before .before .before .before .before in
+    let a = s .args in
+    let S = schemeOf (a .sizes) in
+    let n = a .sizes .«key_bytes» in
+    let u = stateAt (a .sizes) (a .u) in
     let o = a .out .now in
-    let p = parameters (u .side) (u .session) in
-    let key = x .before .sum-32 .ensures ∙ ap (addBits 32 (u .key)) (d .0) in
-    let label = x .sum-322 .ensures ∙ ap (addBits 32 (u .label)) (d .1 .0) in (
-      (λ i. unitOf (state p openKind (record {
-        key = u .key;
-        label = u .label;
+    let f = a .f .now in
+    let p = parametersIn (a .u .parameters) in
+    let d = c .before .before .before .before .read-deal .ensures in
+    let K̃ = field-part (dealLayout S) 0 6 6 (6 + n) f (lit< tt) (omega arith) (omega arith) in
+    let x̃ = field-part (dealLayout S) 1 6 (6 + n) (6 + n + n) f (lit< tt) (omega arith) (omega arith) in
+    let none = zeros-front (a .sizes .«inner_bytes») 32 (s .pre .0 .inner) in (
+      (λ i. state p openKind (record {
+        key = u .secrets .key;
+        label = u .secrets .label;
         keyMask = d .0 i;
         labelMask = d .1 .0 i;
         z = d .1 .1 .0 i;
         r = d .1 .1 .1 i;
-        ownMask = zeros 32;
-      }))),
-      c .before .before .write-open-frame .ensures ∙ (λ i. frame openKind p (concat (key i ∷ label i ∷ [])) ++ drop (frameBytes base openKind) o)
-          ∙ ap (λ (n : ℕ). takeDeal base (stateOf u) (bodyOf (a .f .now)) .written ++ drop n o) (deal-length base (stateOf u) (bodyOf (a .f .now))),
+        ownMask = none i;
+      })),
+      c .before .before .before .before .before .before .before .write-open-frame .ensures
+          ∙ (λ i. frame openKind p (concat (addBits n (u .secrets .key) (K̃ i) ∷ addBits n (u .secrets .label) (x̃ i) ∷ [])) ++ drop (frameBytes S openKind) o)
+          ∙ ap (λ (k : ℕ). takeDeal S u (bodyOf f) .written ++ drop k o) (deal-length S u (bodyOf f)),
     )
 
 pub take-deal-spec : {M : Type 1} → statement M
 take-deal-spec =
     tie.close
     (tie.spec
-    (λ c κs. search needs)
-    (λ c κs. search needs)
-    (λ c κs. search needs)
     (λ c. search needs)
     (λ c. search needs)
+    (λ c. search needs)
+    (λ c. search needs)
+    (λ c. search needs)
+    (λ c. search needs)
+    (λ c. search needs)
+    (λ c. search needs)
+    array-share-prefix-key
+    slice-aggregate-write-open-frame
+    array-share-prefix-label
+    slice-aggregate-write-open-frame-2
+    (λ c κs. search needs)
     (λ c κs. search needs)
     (λ c. search needs)
     returns)

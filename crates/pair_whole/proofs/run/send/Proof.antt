@@ -4,6 +4,7 @@ use borrow.Author.Needs.{needs}
 use Rattle.linear_model.specs.Bits.{zeros}
 use Rattle.numbers.specs.Number.{atFront}
 use Rattle.pair_model.specs.Scheme.{files}
+use Rattle.pair_frames.proofs.Bases.{base-fits, base-fits-file}
 use Rattle.pair_model.specs.Base.{base}
 use Rattle.pair_model.specs.Unit.{Stepped, leastOutput}
 use Rattle.pair_model.proofs.Theorem.StepLaws.{step-accepted}
@@ -18,8 +19,8 @@ returns c =
     let e = sym (step-accepted base (stateOf (s .args .u)) (s .args .f .now) (files (s .args .file .now)) (leastOutput base) (s .pre)) in
     record {
       frame-is = v .1 .1 ∙ ap (λ (t : Stepped). atFront (t .written) (zeros (leastOutput base))) e;
-      next-is = ap stateOf (v .1 .0) ∙ ap (λ (t : Stepped). t .next) e;
+      next-is = v .1 .0 ∙ ap (λ (t : Stepped). t .next) e;
     }
 
 pub send-spec : {M : Type 1} → statement M
-send-spec = tie.close (tie.spec (λ c. search needs) (λ c κs. search needs) returns)
+send-spec = tie.close (tie.spec (λ c. search needs) (λ c κs. (base-fits, base-fits-file, c .before .before .before .pre)) returns)

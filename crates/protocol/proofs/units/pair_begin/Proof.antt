@@ -2,6 +2,7 @@
 use mathlib.Core.Path.{_≡_, refl, sym, ap, _∙_}
 use native.Mathlib.Omega.{arith}
 use borrow.Author.Needs.{needs}
+use Rattle.pair_frames.proofs.Bases.{base-fits}
 use Rattle.pair_model.specs.Base.{base}
 use Rattle.pair_model.specs.Frame.{parameters}
 use Rattle.pair_model.specs.Unit.{begin}
@@ -10,8 +11,6 @@ use Rattle.pair_model.proofs.Internal.Begins.{begin-result, begin-accepted, beg
 use Rattle.pair_model.proofs.Internal.Encodings.{begin-short, begin-long}
 use Rattle.pair_model.proofs.Theorem.Main.{begins, base-demand3}
 use Rattle.pair_model.proofs.Theorem.Calls.{decoded-begun, states-fit, calls-are-runs}
-use Rattle.pair_units.specs.declared.state.UnitState.{UnitState}
-use Rattle.pair_units.specs.Units.{stateOf}
 use Rattle.protocol.proofs.units.pair_begin.Statement.{statement}
 use Rattle.protocol.proofs.units.pair_begin.Tie as tie
 
@@ -32,8 +31,8 @@ returns-2 c =
     let label = a .label .now in
     let long = g .before .if1 .left in
     let b = begin-long base _ long t key label in
-    let number = g .begin .ensures .0 in
-    let held : _ ≡ encodeState (begin base t key label .next) = c .before .before .encode .ensures ∙ ap (λ (u : UnitState). encodeState (stateOf u)) (g .begin .ensures .1 .0) in
+    let number = g .begin-unit .ensures .0 in
+    let held : _ ≡ encodeState (begin base t key label .next) = c .before .before .encode .ensures ∙ ap encodeState (g .begin-unit .ensures .1) in
     let is = number ∙ begin-result base t key label in
     let next = ap (decodeState base) (held ∙ b .1) ∙ decoded-begun base _ long t key label (record { session = omega arith }) (λ i. k .before .before .shared-slice-known .given i .fits) (λ i. k .before .shared-slice-known2 .given i .fits) in (
       number ∙ b .0,
@@ -50,4 +49,4 @@ returns-2 c =
     )
 
 pub pair-begin-spec : {M : Type 1} → statement M
-pair-begin-spec = tie.close (tie.spec returns (λ c κs. search needs) (λ c κs. search needs) (λ c. search needs) returns-2)
+pair-begin-spec = tie.close (tie.spec returns (λ c κs. base-fits) (λ c κs. search needs) (λ c. search needs) returns-2)

@@ -1,0 +1,13 @@
+-- `pair_frames::frame::parameters_of` meets its contract: the side is a byte of the header.
+use mathlib.Core.Path.{ap}
+use borrow.Author.Needs.{needs}
+use lib.ListN.{getD}
+use Rattle.pair_model.specs.Frame.{parameters}
+use Rattle.pair_frames.proofs.frame.parameters_of.Statement.{statement}
+use Rattle.pair_frames.proofs.frame.parameters_of.Tie as tie
+
+returns : tie.Need-returns
+returns c = ap (parameters (getD (c .before .before .before .args .f .now) 1 0)) (c .session-of .ensures)
+
+pub parameters-of-spec : {M : Type 1} → statement M
+parameters-of-spec = tie.close (tie.spec (λ c. search needs) (λ c κs. search needs) returns)

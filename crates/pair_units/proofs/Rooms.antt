@@ -1,0 +1,104 @@
+-- The arrays of a unit's state: their lengths, what is read from the front of each, and the one law that joins struct and state.
+use mathlib.Core.Path.{_≡_, refl, sym, ap, _∙_}
+use mathlib.Core.List.{List, [], _∷_, _++_, append-nil}
+use Prim.Native.Nat.{ℕ, zero, suc, _*_, _/_, _≤_}
+use native.Mathlib.Nat.{le-of-suc-le-suc}
+use native.Mathlib.Omega.{arith}
+use borrow.Author.Needs.{length-unmapped}
+use denote.Laws.{Is}
+use denote.Struct.Declared.{row}
+use mir.Val.{Val}
+use lib.ListN.{length, take, drop, length-append, drop-of-length-le}
+use lib.Seq.{take-at, take-all, length-take-le}
+use Rattle.linear_model.specs.Bits.{zeros}
+use Rattle.linear_model.specs.Trits.{innerShare}
+use Rattle.linear_model.proofs.Strings.{length-zeros}
+use Rattle.pair_frames.specs.Schemes.{keyRoom, innerRoom}
+use Rattle.pair_units.specs.declared.state.UnitState.{UnitState}
+use Rattle.pair_units.specs.Units.{stateOf, inRoom, unitOf}
+use Rattle.pair_units.proofs.state.UnitState as Struct
+
+-- each array of a state has its room's length
+pub record Full (u : UnitState) : Type 0 where
+  pub key : length (u .key) ≡ keyRoom
+  pub label : length (u .label) ≡ keyRoom
+  pub keyMask : length (u .«key_mask») ≡ keyRoom
+  pub labelMask : length (u .«label_mask») ≡ keyRoom
+  pub z : length (u .z) ≡ innerRoom
+  pub r : length (u .r) ≡ 2 * innerRoom
+  pub ownMask : length (u .«own_mask») ≡ innerRoom
+
+-- which is known of every struct that is passed or returned
+pub full : (u : UnitState) (vs : List Val) → Is (row Struct.the-type) u vs → Full u
+full u vs p =
+    let fields = p .1 .1 .1 .1 in
+    record {
+      key = length-unmapped ℕ (u .key) keyRoom (fields .0 .1 .0 .1);
+      label = length-unmapped ℕ (u .label) keyRoom (fields .1 .0 .1 .0 .1);
+      keyMask = length-unmapped ℕ (u .«key_mask») keyRoom (fields .1 .1 .0 .1 .0 .1);
+      labelMask = length-unmapped ℕ (u .«label_mask») keyRoom (fields .1 .1 .1 .0 .1 .0 .1);
+      z = length-unmapped ℕ (u .z) innerRoom (fields .1 .1 .1 .1 .0 .1 .0 .1);
+      r = length-unmapped ℕ (u .r) (2 * innerRoom) (fields .1 .1 .1 .1 .1 .0 .1 .0 .1);
+      ownMask = length-unmapped ℕ (u .«own_mask») innerRoom (fields .1 .1 .1 .1 .1 .1 .0 .1 .0 .1);
+    }
+
+-- the front of a room of zeros
+pub zeros-front : (n room : ℕ) → n ≤ room → take n (zeros room) ≡ zeros n
+zeros-front zero room h = refl
+zeros-front (suc n) zero h = absurd (omega arith)
+zeros-front (suc n) (suc room) h = ap (λ (s : List ℕ). 0 ∷ s) (zeros-front n room (le-of-suc-le-suc h))
+
+-- a string that fills its room is read and put back
+room-full : (room : ℕ) (s : List ℕ) → length s ≡ room → inRoom room (take room s) ≡ s
+room-full room s e =
+    let t : take room s ≡ s = take-all room s (omega arith) in
+    (λ i. t i ++ drop (length (t i)) (zeros room)) ∙ ap (λ (x : List ℕ). s ++ x) (drop-of-length-le (zeros room) {i = length s} (omega (arith, length-zeros room))) ∙ append-nil s
+
+-- a struct whose strings fill their rooms, as at the sizes of document 01, is the one that its state becomes
+pub unit-back : (u : UnitState) → Full u → unitOf (stateOf u) ≡ u
+unit-back u f =
+    λ i. record {
+      parameters = u .parameters;
+      stage = u .stage;
+      key = room-full keyRoom (u .key) (f .key) i;
+      label = room-full keyRoom (u .label) (f .label) i;
+      «key_mask» = room-full keyRoom (u .«key_mask») (f .keyMask) i;
+      «label_mask» = room-full keyRoom (u .«label_mask») (f .labelMask) i;
+      z = room-full innerRoom (u .z) (f .z) i;
+      r = room-full (2 * innerRoom) (u .r) (f .r) i;
+      «own_mask» = room-full innerRoom (u .«own_mask») (f .ownMask) i;
+    }
+
+-- the front of a room that was lent, and came back as s
+module _ (n : ℕ) (room s : List ℕ) (h : n ≤ length room) (kept : length s ≡ length (take n room)) where
+  front-long : length s ≡ n
+  front-long = kept ∙ length-take-le n room h
+
+  pub lent-fits : n ≤ length (s ++ drop n room)
+  lent-fits = rw length-append (omega (arith, front-long))
+
+  pub lent-front : take n (s ++ drop n room) ≡ s
+  lent-front = take-at s (drop n room) n front-long
+
+  pub lent-long : length (take n (s ++ drop n room)) ≡ n
+  lent-long = ap length lent-front ∙ front-long
+
+-- the front of an array of a room's length
+pub prefix : {n room : ℕ} (s : List ℕ) → length s ≡ room → n ≤ room → n ≤ length s
+prefix s e h = omega arith
+
+pub prefix-long : (n : ℕ) {room : ℕ} (s : List ℕ) → length s ≡ room → n ≤ room → n ≡ length (take n s)
+prefix-long n s e h = sym (length-take-le n s (omega arith))
+
+-- both planes of an inner share, written to a room that they fill
+pub lent-planes : (m side : ℕ) (w r s : List ℕ) → m ≡ 32
+    → s ≡ innerShare (length (take (2 * m) (zeros 64)) / 2) side w r ++ drop (2 * (length (take (2 * m) (zeros 64)) / 2)) (take (2 * m) (zeros 64))
+    → s ++ drop (2 * m) (zeros 64) ≡ innerShare m side w r
+lent-planes m side w r s e p =
+    let l : length (take (2 * m) (zeros 64)) ≡ 2 * m = length-take-le (2 * m) (zeros 64) (omega arith) in
+    let h : length (take (2 * m) (zeros 64)) / 2 ≡ m = omega arith in
+    let none : drop (2 * m) (take (2 * m) (zeros 64)) ≡ [] = drop-of-length-le (take (2 * m) (zeros 64)) {i = 2 * m} (omega arith) in
+    let rest : drop (2 * m) (zeros 64) ≡ [] = drop-of-length-le (zeros 64) {i = 2 * m} (omega arith) in
+    let is : s ≡ innerShare m side w r =
+    p ∙ (λ i. innerShare (h i) side w r ++ drop (2 * h i) (take (2 * m) (zeros 64))) ∙ ap (λ (t : List ℕ). innerShare m side w r ++ t) none ∙ append-nil (innerShare m side w r) in
+    (λ i. is i ++ rest i) ∙ append-nil (innerShare m side w r)
