@@ -10,14 +10,14 @@ use lib.Bits.{bitXor, xor-lt}
 use lib.Dec.{lit<}
 use lib.ListN.{length, getD, set, length-set}
 use lib.Pow.{shr-shr}
-use lib.Seq.{getD-set-same, getD-set-other}
+use lib.Seq.{getD-set-same, getD-set-other, paste, paste-suc}
 use Rattle.linear_model.specs.Tables.{from}
 use Rattle.linear_model.specs.Bits.{bit, bitAt, byteOf, fromBits, pack, sumBit}
 use Rattle.linear_model.specs.Trits.{low, high}
 use Rattle.linear_model.specs.Internal.Words.{FourWords, setHalf, setWord, setFour}
 use Rattle.linear_model.specs.Internal.Planes.{PlaneBits}
 use Rattle.linear_model.proofs.NumberBits.{from-bits-ext, from-bits-lt, from-bits-of, bit-at-xor}
-use Rattle.linear_model.proofs.Strings.{bit-lt}
+use Rattle.linear_model.proofs.Strings.{bit-at, bit-lt, byte-is}
 use Rattle.linear_model.proofs.WordBits.{word-byte, word-bit-at}
 use Rattle.linear_model.proofs.Filling.{Filling, filling-none, filling-step, filling-all, Planes, planes-step}
 
@@ -153,3 +153,39 @@ sum-word a b o x y ex ey =
     from-bits-of 64 (bitXor x y) (from o (sumBit a b))
     (xor-lt 64 x y (rw ex (from-bits-lt 64 (from o (bit a)) (λ i. bit-lt a (o + i)))) (rw ey (from-bits-lt 64 (from o (bit b)) (λ i. bit-lt b (o + i)))))
     (λ k l. bit-at-xor x y k ∙ ap₂ (λ (s t : ℕ). (s + t) % 2) (word-bit-at a o x ex k l) (word-bit-at b o y ey k l))
+
+-- ---- copies by words
+
+-- i bytes of s are copied into o from place c on; and one byte more
+module _ (o : List ℕ) (c : ℕ) (s : List ℕ) (room : c + length s ≤ length o) where
+  paste-byte : (i p v : ℕ) → i < length s → p ≡ c + i → v ≡ getD s i 0 → set (paste o c s i) p v ≡ paste o c s (suc i)
+  paste-byte i p v l e f = ap₂ (λ (q w : ℕ). set (paste o c s i) q w) e f ∙ paste-suc o c s i 0 (omega arith) l
+
+  paste-half : (i p x : ℕ) → i + 4 ≤ length s → p ≡ c + i → ((k : ℕ) → k < 4 → x / 2 ^ (8 * k) % 256 ≡ getD s (i + k) 0)
+      → setHalf (paste o c s i) p x ≡ paste o c s (i + 4)
+  unfolding setHalf
+  paste-half i p x l e h =
+      let v : ℕ → ℕ = λ k. x / 2 ^ (8 * k) % 256 in
+      let n : suc (suc (suc (suc i))) ≡ i + 4 = omega arith in
+      ap (λ (t : List ℕ). set (set (set t (p + 1) (v 1)) (p + 2) (v 2)) (p + 3) (v 3))
+      (paste-byte i p (v 0) (omega arith) e (h 0 (lit< tt) ∙ ap (λ (k : ℕ). getD s k 0) (add-zero i)))
+      ∙ ap (λ (t : List ℕ). set (set t (p + 2) (v 2)) (p + 3) (v 3))
+      (paste-byte (suc i) (p + 1) (v 1) (omega arith) (omega arith) (h 1 (lit< tt) ∙ ap (λ (k : ℕ). getD s k 0) (omega arith)))
+      ∙ ap (λ (t : List ℕ). set t (p + 3) (v 3))
+      (paste-byte (suc (suc i)) (p + 2) (v 2) (omega arith) (omega arith) (h 2 (lit< tt) ∙ ap (λ (k : ℕ). getD s k 0) (omega arith)))
+      ∙ paste-byte (suc (suc (suc i))) (p + 3) (v 3) (omega arith) (omega arith) (h 3 (lit< tt) ∙ ap (λ (k : ℕ). getD s k 0) (omega arith))
+      ∙ ap (paste o c s) n
+
+  -- a word more
+  pub paste-word : (i x : ℕ) → ((k : ℕ) → getD s k 0 < 256) → i + 8 ≤ length s → x ≡ fromBits 64 (from (8 * i) (bit s))
+      → setWord (paste o c s i) (c + i) x ≡ paste o c s (i + 8)
+  unfolding setWord
+  paste-word i x small l e =
+      let byte : (k : ℕ) → k < 8 → x / 2 ^ (8 * k) % 256 ≡ getD s (i + k) 0 =
+      λ k r. word-bytes (bit s) i x k (bit-lt s) e r ∙ sym (byte-is (bit s) (i + k) (getD s (i + k) 0) (small (i + k)) (λ j q. sym (bit-at s (i + k) j q)))
+      in
+      ap (λ (t : List ℕ). setHalf t (c + i + 4) (x / 2 ^ 32)) (paste-half i (c + i) x (omega arith) refl (λ k r. byte k (omega arith)))
+      ∙ paste-half (i + 4) (c + i + 4) (x / 2 ^ 32) (omega arith) (omega arith)
+      (λ k r. let a : 32 + 8 * k ≡ 8 * (4 + k) = omega arith in let b : i + (4 + k) ≡ i + 4 + k = omega arith in
+      ap (λ (y : ℕ). y % 256) (shr-shr x 32 (8 * k)) ∙ ap (λ (n : ℕ). x / 2 ^ n % 256) a ∙ byte (4 + k) (omega arith) ∙ ap (λ (n : ℕ). getD s n 0) b)
+      ∙ ap (paste o c s) (let n : i + 4 + 4 ≡ i + 8 = omega arith in n)
