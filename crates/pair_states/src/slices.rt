@@ -7,19 +7,24 @@ ghost use Rattle.numbers.specs.Number.{atFront};
 ghost use Rattle.pair_frames.specs.Schemes.{schemeOf, Fits};
 ghost use Rattle.pair_model.specs.Scheme.{files};
 ghost use Rattle.pair_model.specs.Base.{base};
-ghost use Rattle.pair_model.specs.Frame.{parameters, kindOf, sideOf, sessionOf, bodyOf};
-ghost use Rattle.pair_model.specs.Unit.{advance, stepNumber};
+ghost use Rattle.pair_model.specs.Frame.{parameters, dealKind, openKind, kindOf, sideOf, sessionOf, frameBytes, bodyOf};
+ghost use Rattle.pair_model.specs.Unit.{takeDeal, advance, stepNumber};
 ghost use Rattle.pair_model.specs.StateSlice.{stateBytes, encodeState, decodeState};
 ghost use Rattle.pair_units.specs.Units.{stateAt, stateOf};
 use linear_words::bytes::put;
 use pair_frames::fields::read_deal;
+use pair_frames::fields::write_open_frame;
 use pair_frames::frame::header_bytes;
 use pair_frames::frame::parameters_of;
 use pair_frames::sizes::BASE;
+use pair_frames::sizes::DEAL_FRAME_BYTES;
 use pair_frames::sizes::HEADER_BYTES;
+use pair_frames::sizes::INNER_BYTES;
 use pair_frames::sizes::INNER_ROOM;
+use pair_frames::sizes::KEY_BYTES;
 use pair_frames::sizes::KEY_ROOM;
 use pair_frames::sizes::OPEN_FRAME_BYTES;
+use pair_frames::sizes::STATE_DEAL;
 use pair_frames::sizes::STATE_KEY;
 use pair_frames::sizes::STATE_KEY_MASK;
 use pair_frames::sizes::STATE_LABEL;
@@ -31,8 +36,8 @@ use pair_frames::sizes::Sizes;
 use pair_frames::sizes::TRITS_BYTES;
 use pair_units::state::UnitState;
 use pair_units::state::WAITS_FOR_DEAL;
+use pair_units::state::WAITS_FOR_OPEN;
 use pair_units::steps::advance;
-use pair_units::steps::take_deal;
 
 // Copies a string of 32 bytes to `out` from `at` on. An array that is passed by value brings its length along.
 fn put_32(a: [u8; 32], out: &mut [u8], at: usize)
@@ -109,8 +114,35 @@ pub fn decode(sizes: Sizes, s: &[u8]) -> UnitState
     }
 }
 
-// Takes a frame that is accepted: the slice has the next state afterwards, and `out` the frame to send, whose length is returned. A deal
-// makes no product, so copies of the state would be most of its time: it goes straight to `take_deal`.
+// Takes a deal in place: its bytes go to where the slice has them, and the halves stay. A deal makes no product, so copies of the whole state
+// would be most of its time.
+fn deal_in_place(state: &mut [u8], f: &[u8], out: &mut [u8])
+    requires { ⌜
+        (length (now state) ≡ stateBytes base) × (length (now f) ≡ frameBytes base dealKind) × (frameBytes base openKind ≤ length (now out))
+        ⌝ }
+    ensures state { λ _. ⌜ now (state .exit) ≡ encodeState (takeDeal base (decodeState base (now (state .entry))) (bodyOf (now (f .entry))) .next) ⌝ }
+    ensures output { λ _. ⌜
+        now (out .exit) ≡ atFront (takeDeal base (decodeState base (now (state .entry))) (bodyOf (now (f .entry))) .written) (now (out .entry))
+        ⌝ }
+{
+    let parameters = parameters_of(state);
+    write_open_frame(
+        BASE,
+        parameters,
+        &state[STATE_KEY..STATE_LABEL],
+        &state[STATE_LABEL..STATE_DEAL],
+        &f[HEADER_BYTES..HEADER_BYTES + KEY_BYTES],
+        &f[HEADER_BYTES + KEY_BYTES..OPEN_FRAME_BYTES],
+        out,
+    );
+    let head = header_bytes(WAITS_FOR_OPEN, parameters);
+    let none = [0u8; INNER_BYTES];
+    put(&head, state, 0);
+    put(&f[HEADER_BYTES..DEAL_FRAME_BYTES], state, STATE_DEAL);
+    put(&none, state, STATE_OWN_MASK);
+}
+
+// Takes a frame that is accepted: the slice has the next state afterwards, and `out` the frame to send, whose length is returned.
 pub fn advance_slice(state: &mut [u8], f: &[u8], file: &[u8], out: &mut [u8]) -> usize
     requires { ⌜
         (length (now state) ≡ stateBytes base)
@@ -126,8 +158,7 @@ pub fn advance_slice(state: &mut [u8], f: &[u8], file: &[u8], out: &mut [u8]) ->
         ⌝ }
 {
     if state[0] == WAITS_FOR_DEAL {
-        let next = take_deal(BASE, decode(BASE, state), f, out);
-        encode(next, state);
+        deal_in_place(state, f, out);
         return OPEN_FRAME_BYTES;
     }
     let a = advance(BASE, decode(BASE, state), f, file, out);

@@ -8,7 +8,7 @@ use Rattle.numbers.specs.Number.{atFront}
 use Rattle.pair_model.specs.Scheme.{Files, files}
 use Rattle.pair_model.specs.Base.{base}
 use Rattle.pair_model.specs.Frame.{parameters, dealKind, kindOf, sideOf, sessionOf, frameBytes, bodyOf}
-use Rattle.pair_model.specs.Unit.{State, Stepped, takeDeal, advance, stepNumber}
+use Rattle.pair_model.specs.Unit.{State, Stepped, advance, stepNumber}
 use Rattle.pair_model.specs.StateSlice.{encodeState, decodeState}
 use Rattle.pair_model.proofs.Theorem.StepLaws.{fits}
 use Rattle.pair_model.proofs.Internal.Lengths.{deal-length}
@@ -28,27 +28,22 @@ of-state : (s f : List ℕ) (lent : Files) (n : ℕ) → stepNumber base (parame
 unfolding decodeState
 of-state s f lent n e = e
 
-take-deal-requires : tie.Need-take-deal-requires
-take-deal-requires c κs =
-    let s = c .before .before .before .before .before .before .before .before .before in
+deal-in-place-requires : tie.Need-deal-in-place-requires
+deal-in-place-requires c κs =
+    let s = c .before .before .before .before .before .before .before .before in
     let a = s .args in
     let h = fits base (parameters (sideOf (a .state .now)) (sessionOf (a .state .now))) (kindOf (a .state .now)) (a .f .now) (files (a .file .now)) (length (a .out .now)) (s .pre .1) in
-    (base-fits, h .frame-length ∙ ap (frameBytes base) (c .before .before .before .if1 .taken), h .room)
+    (s .pre .0, h .frame-length ∙ ap (frameBytes base) (c .before .before .if1 .taken), h .room)
 
 returns : tie.Need-returns
 returns c =
-    let a = c .before .before .before .before .before .before .before .before .before .before .before .before .before .before .before .before .args in
+    let a = c .before .before .before .before .before .before .before .before .before .before .before .before .before .args in
     let s = a .state .now in
     let b = bodyOf (a .f .now) in
-    let v = c .before .before .before .before .before .before .take-deal .ensures in
-    let d = c .before .before .before .before .before .before .before .before .decode .ensures in
-    let e = sym (advance-deal base (decodeState base s) b (files (a .file .now)) (waits s (c .before .before .before .before .before .before .before .before .before .before .if1 .taken))) in (
+    let v = c .before .before .before .before .deal-in-place .ensures in
+    let e = sym (advance-deal base (decodeState base s) b (files (a .file .now)) (waits s (c .before .before .before .before .before .before .before .if1 .taken))) in (
       deal-length base (decodeState base s) b ∙ ap (λ (t : Stepped). length (t .written)) e,
-      (
-        c .before .before .encode .ensures ∙ ap encodeState (v .0)
-            ∙ ap (λ (u : State). encodeState (takeDeal base u b .next)) d ∙ ap (λ (t : Stepped). encodeState (t .next)) e,
-        v .1 ∙ ap (λ (u : State). atFront (takeDeal base u b .written) (a .out .now)) d ∙ ap (λ (t : Stepped). atFront (t .written) (a .out .now)) e,
-      ),
+      (v .0 ∙ ap (λ (t : Stepped). encodeState (t .next)) e, v .1 ∙ ap (λ (t : Stepped). atFront (t .written) (a .out .now)) e),
     )
 
 advance-requires : tie.Need-advance-requires
@@ -58,7 +53,7 @@ advance-requires c κs =
     let m = length (a .out .now) in (
       base-fits,
       base-fits-file,
-      ap (λ (u : State). stepNumber base (u .parameters) (u .stage) (a .f .now) (files (a .file .now)) m) (c .before .decode2 .ensures)
+      ap (λ (u : State). stepNumber base (u .parameters) (u .stage) (a .f .now) (files (a .file .now)) m) (c .before .decode .ensures)
           ∙ of-state (a .state .now) (a .f .now) (files (a .file .now)) m (s .pre .1),
     )
 
@@ -68,10 +63,10 @@ returns-2 c =
     let s = a .state .now in
     let b = bodyOf (a .f .now) in
     let v = c .before .before .before .before .before .before .before .advance .ensures in
-    let d = c .before .before .before .before .before .before .before .before .before .decode2 .ensures in (
+    let d = c .before .before .before .before .before .before .before .before .before .decode .ensures in (
       v .0 ∙ ap (λ (u : State). length (advance base u b (files (a .file .now)) .written)) d,
       (
-        c .before .before .encode2 .ensures ∙ ap encodeState (v .1 .0)
+        c .before .before .encode .ensures ∙ ap encodeState (v .1 .0)
             ∙ ap (λ (u : State). encodeState (advance base u b (files (a .file .now)) .next)) d,
         v .1 .1 ∙ ap (λ (u : State). atFront (advance base u b (files (a .file .now)) .written) (a .out .now)) d,
       ),
@@ -82,9 +77,7 @@ advance-slice-spec =
     tie.close
     (tie.spec
     (λ c. search needs)
-    (λ c κs. (base-fits, c .before .before .before .before .before .before .before .pre .0))
-    take-deal-requires
-    (λ c κs. search needs)
+    deal-in-place-requires
     (λ c. search needs)
     (λ c. search needs)
     returns
