@@ -1,31 +1,36 @@
 // The function itself, in one place.
 ghost use mathlib.Core.Path.{_≡_};
-ghost use lib.ListN.{length};
+ghost use Prim.Native.Nat.{_*_};
+ghost use lib.ListN.{length, take};
 ghost use Rattle.linear_model.specs.Trits.{bitTrits};
 ghost use Rattle.linear_model.specs.Products.{circulantProduct};
 ghost use Rattle.numbers.specs.Number.{output};
+ghost use Rattle.pair_frames.specs.Schemes.{Fits};
 ghost use Rattle.pair_model.specs.Scheme.{files};
 ghost use Rattle.pair_model.specs.Base.{base};
 ghost use Rattle.pair_model.specs.Evaluator.{code, evaluateNumber};
+use linear::products::circulant_product;
 use linear_words::bytes::put;
 use matrix::file::matrix_check;
 use matrix::product::file_product;
 use numbers::table::DONE;
 use numbers::table::WRONG_LENGTH;
-use pair_frames::bytes::array_32;
-use pair_frames::bytes::product_32;
+use pair_frames::sizes::BASE;
 use pair_frames::sizes::CODE_BYTES;
 use pair_frames::sizes::KEY_BYTES;
-use pair_frames::sizes::TRITS_BYTES;
+use pair_frames::sizes::Sizes;
+use pair_frames::sizes::TRITS_ROOM;
 
 // The inner vector of a key and a label, as trits: its bits are the low plane.
-fn inner_vector(key: &[u8], label: &[u8]) -> [u8; TRITS_BYTES]
-    requires { ⌜ (length (now key) ≡ base .keyBytes) × (length (now label) ≡ base .keyBytes) ⌝ }
-    ensures { λ r. ⌜ r ≡ bitTrits (base .innerBytes) (circulantProduct (base .keyBytes) (now (key .entry)) (now (label .entry))) ⌝ }
+fn inner_vector(sizes: Sizes, key: &[u8], label: &[u8]) -> [u8; TRITS_ROOM]
+    requires { ⌜ Fits sizes ⌝ }
+    ensures { λ r. ⌜
+        take (2 * sizes .«inner_bytes») r ≡
+        bitTrits (sizes .«inner_bytes») (circulantProduct (sizes .«inner_bytes») (now (key .entry)) (now (label .entry)))
+        ⌝ }
 {
-    let w = product_32(array_32(key, 0), array_32(label, 0));
-    let mut v = [0u8; TRITS_BYTES];
-    put(&w, &mut v, 0);
+    let mut v = [0u8; TRITS_ROOM];
+    circulant_product(key, label, &mut v[..sizes.inner_bytes]);
     v
 }
 
@@ -50,7 +55,7 @@ pub fn evaluate(key: &[u8], label: &[u8], file: &[u8], out: &mut [u8]) -> u32
     if number != DONE {
         return number;
     }
-    let code = file_product(file, inner_vector(key, label));
+    let code = file_product(file, inner_vector(BASE, key, label));
     put(&code, out, 0);
     DONE
 }

@@ -5,6 +5,7 @@ use Prim.Native.Nat.{ℕ, _≤_}
 use native.Mathlib.Omega.{arith}
 use borrow.Author.Needs.{needs}
 use lib.ListN.{length, drop}
+use lib.Seq.{take-all}
 use Rattle.linear_model.specs.Products.{matrixProduct}
 use Rattle.numbers.specs.Number.{output}
 use Rattle.matrix_model.specs.File.{rows}
@@ -48,9 +49,11 @@ returns-5 c =
     let a = t .before .before .before .before .before .before .before .args in
     let z = sym (m .matrix-check .ensures) ∙ i .if4 .left in
     let h : 22 ≤ length (a .out .now) = t .if3 .left in
+    let v = k .before .inner-vector in
+    let w = sym (take-all 64 (v .result) (omega (arith, v .ok .1 .0 .1))) ∙ v .ensures in
     let y : k .file-product .result ≡ code base (a .key .now) (a .label .now) (files (a .file .now)) =
     k .file-product .ensures ∙ product-of-file (a .file .now) _ (fit-length (a .file .now) z)
-    ∙ ap (matrixProduct 11 32 81 (rows (a .file .now))) (k .before .inner-vector .ensures) in
+    ∙ ap (matrixProduct 11 32 81 (rows (a .file .now))) w in
     let l : length (k .file-product .result) ≡ 22 = omega arith in (
       sym z ∙ check-number _ ∙ rows-decide base _ _ _ _ (t .before .before .if1 .left) refl tt (t .before .if2 .left) h,
       copied-first (k .file-product .result) _ (omega arith) (c .before .before .put .ensures) .is

@@ -1,40 +1,50 @@
 -- `pair_counter::evaluator::inner_vector` meets its contract: the product is the low plane.
-use mathlib.Core.Path.{_≡_, _∙_}
-use mathlib.Core.List.{_++_}
+use mathlib.Core.Path.{_≡_, sym, ap, _∙_}
+use mathlib.Core.List.{List, _++_, append-assoc}
+use Prim.Native.Nat.{ℕ, _+_, _-_, _*_, _≤_}
 use native.Mathlib.Omega.{arith}
 use borrow.Author.Needs.{needs}
-use lib.ListN.{length, drop}
-use lib.Seq.{take-all}
+use lib.ListN.{length, take, drop, length-append, replicate-append-replicate}
+use lib.Seq.{take-at, drop-at, length-take-le}
 use Rattle.linear_model.specs.Bits.{zeros}
 use Rattle.linear_model.specs.Products.{circulant, circulantProduct}
 use Rattle.linear_model.proofs.Linearity.{bytes-product}
-use Rattle.linear_model.proofs.Copies.{copied-first}
+use Rattle.linear_model.proofs.Strings.{length-zeros}
 use Rattle.pair_model.proofs.Internal.Evaluations.{bits-as-trits}
 use Rattle.pair_counter.proofs.evaluator.inner_vector.Statement.{statement}
 use Rattle.pair_counter.proofs.evaluator.inner_vector.Tie as tie
 
+-- behind m bytes over the front of zeros, the next m are zeros
+low-plane : (m room : ℕ) (w : List ℕ) → length w ≡ m → 2 * m ≤ room → take (2 * m) (w ++ drop m (zeros room)) ≡ w ++ zeros m
+low-plane m room w l h =
+    let k : m + (m + (room - 2 * m)) ≡ room = omega arith in
+    let z : zeros room ≡ zeros m ++ (zeros m ++ zeros (room - 2 * m)) =
+    sym (ap (λ (t : List ℕ). zeros m ++ t) (replicate-append-replicate m (room - 2 * m) 0) ∙ replicate-append-replicate m (m + (room - 2 * m)) 0 ∙ ap zeros k) in
+    let d : drop m (zeros room) ≡ zeros m ++ zeros (room - 2 * m) = ap (drop m) z ∙ drop-at (zeros m) (zeros m ++ zeros (room - 2 * m)) m (length-zeros m) in
+    ap (λ (t : List ℕ). take (2 * m) (w ++ t)) d ∙ ap (take (2 * m)) (sym (append-assoc w (zeros m) (zeros (room - 2 * m))))
+    ∙ take-at (w ++ zeros m) (zeros (room - 2 * m)) (2 * m) (length-append w (zeros m) ∙ omega (arith, length-zeros m))
+
+slice-aggregate-circulant-product : tie.Need-slice-aggregate-circulant-product
+slice-aggregate-circulant-product c = let s = c .before .before .before in sym (length-take-le (s .args .sizes .«inner_bytes») (zeros 64) (omega (arith, s .pre .inner)))
+
 returns : tie.Need-returns
 returns c =
-    let p = c .before .before .before .before in
-    let s = p .before .before .before .before .before in
-    let a = s .args in
-    let k : p .before .before .array-32 .result ≡ a .key .now = p .before .before .array-32 .ensures ∙ take-all 32 (a .key .now) (omega (arith, s .pre .0)) in
-    let x : p .before .array-322 .result ≡ a .label .now = p .before .array-322 .ensures ∙ take-all 32 (a .label .now) (omega (arith, s .pre .1)) in
-    let w = p .product-32 .result in
-    let e : w ≡ circulantProduct 32 (a .key .now) (a .label .now) = p .product-32 .ensures ∙ (λ i. circulantProduct 32 (k i) (x i)) in
-    let l : length w ≡ 32 = omega arith in
-    copied-first {d = zeros 64} w _ (omega arith) (c .before .put .ensures) .is
-    ∙ (λ i. e i ++ drop (l i) (zeros 64))
-    ∙ bits-as-trits 32 (circulantProduct 32 (a .key .now) (a .label .now)) (bytes-product 32 32 (circulant 32 (a .key .now)) (a .label .now))
+    let s = c .before .before .before .before .before in
+    let m = s .args .sizes .«inner_bytes» in
+    let key = s .args .key .now in
+    let label = s .args .label .now in
+    let h : 2 * m ≤ 64 = omega (arith, s .pre .inner) in
+    let is = c .before .circulant-product .ensures ∙ ap (λ (n : ℕ). circulantProduct n key label) (length-take-le m (zeros 64) (omega arith)) in
+    let b = bytes-product m m (circulant m key) label in
+    ap (λ (w : List ℕ). take (2 * m) (w ++ drop m (zeros 64))) is
+    ∙ low-plane m 64 (circulantProduct m key label) (b .size) h
+    ∙ bits-as-trits m (circulantProduct m key label) b
 
 pub inner-vector-spec : {M : Type 1} → statement M
 inner-vector-spec =
     tie.close
     (tie.spec
-    (λ c κs. search needs)
-    (λ c κs. search needs)
-    (λ c κs. search needs)
     (λ c. search needs)
-    (λ c. search needs)
+    slice-aggregate-circulant-product
     (λ c κs. search needs)
     returns)
