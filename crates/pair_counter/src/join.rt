@@ -4,12 +4,13 @@ ghost use mathlib.Core.List.{[], _∷_};
 ghost use mathlib.Core.Bool.{cond, not};
 ghost use lib.Dec.{eqb, ltb};
 ghost use Prim.Native.Nat.{_≤_};
-ghost use lib.ListN.{length};
+ghost use lib.ListN.{length, take};
 ghost use Rattle.linear_model.specs.Trits.{fitTrits, zeroTrits};
 ghost use Rattle.linear_model.specs.Products.{planeBytes};
 ghost use Rattle.numbers.specs.Number.{_when_, first, output};
+ghost use Rattle.pair_frames.specs.Schemes.{schemeOf, Fits};
 ghost use Rattle.pair_model.specs.Base.{base};
-ghost use Rattle.pair_model.specs.Frame.{shareKind, frameBytes, codeBytes};
+ghost use Rattle.pair_model.specs.Frame.{shareKind, frameBytes, bodyOf, codeBytes};
 ghost use Rattle.pair_model.specs.Join.{joinNumber, joined};
 use linear::trits::add_trits;
 use linear::trits::spare_bits_clear;
@@ -25,10 +26,8 @@ use pair_frames::frame::header_number;
 use pair_frames::frame::read_header;
 use pair_frames::header::Header;
 use pair_frames::sizes::BASE;
-use pair_frames::sizes::CODE_BYTES;
-use pair_frames::sizes::DIGITS;
 use pair_frames::sizes::HEADER_BYTES;
-use pair_frames::sizes::SHARE_FRAME_BYTES;
+use pair_frames::sizes::Sizes;
 
 // The lower of two numbers, where 0 is none.
 fn lower(a: u32, b: u32) -> u32
@@ -43,18 +42,27 @@ fn lower(a: u32, b: u32) -> u32
     if a < b { a } else { b }
 }
 
-// The number of one share: 10 before 11.
-fn share_number(v: &[u8]) -> u32
-    requires { ⌜ length (now v) ≡ codeBytes base ⌝ }
+// The share in a share frame.
+fn share_of(sizes: Sizes, f: &[u8]) -> &[u8]
+    requires { ⌜ Fits sizes × (length (now f) ≡ frameBytes (schemeOf sizes) shareKind) ⌝ }
+    ensures { λ r. ⌜ now r ≡ take (codeBytes (schemeOf sizes)) (bodyOf (now (f .entry))) ⌝ }
+{
+    &f[HEADER_BYTES..HEADER_BYTES + 2 * ((sizes.digits + 7) / 8)]
+}
+
+// The number of one share frame's share: 10 before 11.
+fn share_number(sizes: Sizes, f: &[u8]) -> u32
+    requires { ⌜ Fits sizes × (length (now f) ≡ frameBytes (schemeOf sizes) shareKind) ⌝ }
     ensures { λ n. ⌜
         n ≡ first
-        (10 when not (fitTrits (planeBytes (base .digits)) (base .digits) (now (v .entry)))
-        ∷ 11 when not (zeroTrits (planeBytes (base .digits)) (base .digits) (now (v .entry)))
+        (10 when not (fitTrits (planeBytes (sizes .digits)) (sizes .digits) (take (codeBytes (schemeOf sizes)) (bodyOf (now (f .entry)))))
+        ∷ 11 when not (zeroTrits (planeBytes (sizes .digits)) (sizes .digits) (take (codeBytes (schemeOf sizes)) (bodyOf (now (f .entry)))))
         ∷ [])
         ⌝ }
 {
-    let fit = trits_fit(v, DIGITS);
-    let clear = spare_bits_clear(v, DIGITS);
+    let v = share_of(sizes, f);
+    let fit = trits_fit(v, sizes.digits);
+    let clear = spare_bits_clear(v, sizes.digits);
     if !fit {
         return UNFIT_TRIT;
     }
@@ -62,14 +70,15 @@ fn share_number(v: &[u8]) -> u32
 }
 
 // The number of a join.
-fn join_number(f: &[u8], g: &[u8], room: usize) -> u32
-    ensures { λ n. ⌜ n ≡ joinNumber base (now (f .entry)) (now (g .entry)) room ⌝ }
+fn join_number(sizes: Sizes, f: &[u8], g: &[u8], room: usize) -> u32
+    requires { ⌜ Fits sizes ⌝ }
+    ensures { λ n. ⌜ n ≡ joinNumber (schemeOf sizes) (now (f .entry)) (now (g .entry)) room ⌝ }
 {
-    if room < CODE_BYTES {
+    if room < 2 * ((sizes.digits + 7) / 8) {
         return WRONG_LENGTH;
     }
-    let p = read_header(BASE, f, SHARE, SHARE);
-    let q = read_header(BASE, g, SHARE, SHARE);
+    let p = read_header(sizes, f, SHARE, SHARE);
+    let q = read_header(sizes, g, SHARE, SHARE);
     let refusal = lower(header_number(p), header_number(q));
     let Header::Fields {
         side: side_f,
@@ -96,21 +105,21 @@ fn join_number(f: &[u8], g: &[u8], room: usize) -> u32
     if side_g != 1 {
         return OTHER_SIDE;
     }
-    lower(
-        share_number(&f[HEADER_BYTES..SHARE_FRAME_BYTES]),
-        share_number(&g[HEADER_BYTES..SHARE_FRAME_BYTES]),
-    )
+    lower(share_number(sizes, f), share_number(sizes, g))
 }
 
 // The code of two share frames that fit: their bodies added modulo 3. No branch depends on them.
-pub fn add_shares(first: &[u8], second: &[u8], out: &mut [u8])
-    requires { ⌜ (length (now first) ≡ frameBytes base shareKind) × (length (now second) ≡ frameBytes base shareKind) × (codeBytes base ≤ length (now out)) ⌝ }
-    ensures { λ _. ⌜ now (out .exit) ≡ output 0 (joined base (now (first .entry)) (now (second .entry))) (now (out .entry)) ⌝ }
+pub fn add_shares(sizes: Sizes, first: &[u8], second: &[u8], out: &mut [u8])
+    requires { ⌜
+        Fits sizes × (length (now first) ≡ frameBytes (schemeOf sizes) shareKind) × (length (now second) ≡ frameBytes (schemeOf sizes) shareKind)
+        × (codeBytes (schemeOf sizes) ≤ length (now out))
+        ⌝ }
+    ensures { λ _. ⌜ now (out .exit) ≡ output 0 (joined (schemeOf sizes) (now (first .entry)) (now (second .entry))) (now (out .entry)) ⌝ }
 {
     add_trits(
-        &first[HEADER_BYTES..SHARE_FRAME_BYTES],
-        &second[HEADER_BYTES..SHARE_FRAME_BYTES],
-        &mut out[..CODE_BYTES],
+        share_of(sizes, first),
+        share_of(sizes, second),
+        &mut out[..2 * ((sizes.digits + 7) / 8)],
     );
 }
 
@@ -119,10 +128,10 @@ pub fn join(first: &[u8], second: &[u8], out: &mut [u8]) -> u32
     ensures result { λ n. ⌜ n ≡ joinNumber base (now (first .entry)) (now (second .entry)) (length (now (out .entry))) ⌝ }
     ensures output { λ n. ⌜ now (out .exit) ≡ output n (joined base (now (first .entry)) (now (second .entry))) (now (out .entry)) ⌝ }
 {
-    let number = join_number(first, second, out.len());
+    let number = join_number(BASE, first, second, out.len());
     if number != DONE {
         return number;
     }
-    add_shares(first, second, out);
+    add_shares(BASE, first, second, out);
     DONE
 }

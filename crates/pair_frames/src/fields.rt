@@ -5,7 +5,6 @@ ghost use Prim.Native.Nat.{_+_, _*_, _≤_};
 ghost use lib.ListN.{length, take, drop};
 ghost use Rattle.linear_model.specs.Bits.{addBits};
 ghost use Rattle.pair_model.specs.Scheme.{layoutBytes, field, concat};
-ghost use Rattle.pair_model.specs.Base.{base};
 ghost use Rattle.pair_model.specs.Tape.{dealLayout};
 ghost use Rattle.pair_model.specs.Frame.{dealKind, openKind, frame, frameBytes, bodyOf};
 ghost use Rattle.pair_frames.specs.Headers.{parametersIn};
@@ -13,18 +12,10 @@ ghost use Rattle.pair_frames.specs.Schemes.{schemeOf, Fits};
 use crate::frame::OPEN;
 use crate::frame::header_bytes;
 use crate::parameters::Parameters;
-use crate::sizes::DEAL_BYTES;
-use crate::sizes::DEAL_KEY_MASK;
-use crate::sizes::DEAL_LABEL_MASK;
-use crate::sizes::DEAL_R;
-use crate::sizes::DEAL_Z;
 use crate::sizes::HEADER_BYTES;
-use crate::sizes::INNER_BYTES;
 use crate::sizes::INNER_ROOM;
-use crate::sizes::KEY_BYTES;
 use crate::sizes::KEY_ROOM;
 use crate::sizes::Sizes;
-use crate::sizes::TRITS_BYTES;
 use crate::sizes::TRITS_ROOM;
 use linear::bits::add_bits;
 use linear_words::bytes::put;
@@ -71,22 +62,6 @@ pub fn r_of_deal(sizes: Sizes, f: &[u8]) -> &[u8]
 {
     let at = HEADER_BYTES + 2 * sizes.key_bytes + sizes.inner_bytes;
     &f[at..at + 2 * sizes.inner_bytes]
-}
-
-// A deal of its fields. Lengths are written out, so that copies are compiled for them.
-pub fn deal_body(key_mask: &[u8], label_mask: &[u8], z: &[u8], r: &[u8]) -> [u8; DEAL_BYTES]
-    requires { ⌜
-        (length (now «key_mask») ≡ base .keyBytes) × (length (now «label_mask») ≡ base .keyBytes) × (length (now z) ≡ base .innerBytes)
-        × (length (now r) ≡ 2 * base .innerBytes)
-        ⌝ }
-    ensures { λ body. ⌜ body ≡ concat (now («key_mask» .entry) ∷ now («label_mask» .entry) ∷ now (z .entry) ∷ now (r .entry) ∷ []) ⌝ }
-{
-    let mut body = [0u8; DEAL_BYTES];
-    put(&key_mask[..KEY_BYTES], &mut body, DEAL_KEY_MASK);
-    put(&label_mask[..KEY_BYTES], &mut body, DEAL_LABEL_MASK);
-    put(&z[..INNER_BYTES], &mut body, DEAL_Z);
-    put(&r[..TRITS_BYTES], &mut body, DEAL_R);
-    body
 }
 
 // Writes an open frame to the front of `out`: key half + K̃i, label half + x̃i.

@@ -1,5 +1,4 @@
 // Frames: their lengths, their headers and the fields of their bodies.
-pub mod bytes;
 pub mod fields;
 pub mod frame;
 pub mod header;

@@ -41,19 +41,8 @@ pub const DIGITS: usize = ROW_COUNT;
 // A header: kind, side, session.
 pub const HEADER_BYTES: usize = 6;
 
-// A deal: K̃i, x̃i, zi, ri, each by its place in the deal.
-pub const DEAL_KEY_MASK: usize = 0;
-
-pub const DEAL_LABEL_MASK: usize = DEAL_KEY_MASK + KEY_BYTES;
-
-pub const DEAL_Z: usize = DEAL_LABEL_MASK + KEY_BYTES;
-
-pub const DEAL_R: usize = DEAL_Z + INNER_BYTES;
-
-pub const DEAL_BYTES: usize = DEAL_R + TRITS_BYTES;
-
 // The whole length of a frame of each kind.
-pub const DEAL_FRAME_BYTES: usize = HEADER_BYTES + DEAL_BYTES;
+pub const DEAL_FRAME_BYTES: usize = HEADER_BYTES + 2 * KEY_BYTES + INNER_BYTES + TRITS_BYTES;
 
 pub const OPEN_FRAME_BYTES: usize = HEADER_BYTES + 2 * KEY_BYTES;
 
@@ -64,20 +53,8 @@ pub const SHARE_FRAME_BYTES: usize = HEADER_BYTES + CODE_BYTES;
 // Both deal frames.
 pub const DEALT_BYTES: usize = 2 * DEAL_FRAME_BYTES;
 
-// A tape: K̃0, K̃1, x̃0, x̃1, w̃, z0, r0, each by its place.
-pub const TAPE_KEY_MASK_0: usize = 0;
-
-pub const TAPE_KEY_MASK_1: usize = TAPE_KEY_MASK_0 + KEY_BYTES;
-
-pub const TAPE_LABEL_MASK_0: usize = TAPE_KEY_MASK_1 + KEY_BYTES;
-
-pub const TAPE_LABEL_MASK_1: usize = TAPE_LABEL_MASK_0 + KEY_BYTES;
-
-pub const TAPE_INNER_MASK: usize = TAPE_LABEL_MASK_1 + KEY_BYTES;
-
-pub const TAPE_Z: usize = TAPE_INNER_MASK + INNER_BYTES;
-
-pub const TAPE_R: usize = TAPE_Z + INNER_BYTES;
+// A tape: K̃0, K̃1, x̃0, x̃1, w̃, z0, and then r0.
+pub const TAPE_R: usize = 4 * KEY_BYTES + 2 * INNER_BYTES;
 
 pub const TAPE_BYTES: usize = TAPE_R + TRITS_BYTES;
 
@@ -86,17 +63,15 @@ pub const STATE_KEY: usize = HEADER_BYTES;
 
 pub const STATE_LABEL: usize = STATE_KEY + KEY_BYTES;
 
-pub const STATE_DEAL: usize = STATE_LABEL + KEY_BYTES;
+pub const STATE_KEY_MASK: usize = STATE_LABEL + KEY_BYTES;
 
-pub const STATE_KEY_MASK: usize = STATE_DEAL + DEAL_KEY_MASK;
+pub const STATE_LABEL_MASK: usize = STATE_KEY_MASK + KEY_BYTES;
 
-pub const STATE_LABEL_MASK: usize = STATE_DEAL + DEAL_LABEL_MASK;
+pub const STATE_Z: usize = STATE_LABEL_MASK + KEY_BYTES;
 
-pub const STATE_Z: usize = STATE_DEAL + DEAL_Z;
+pub const STATE_R: usize = STATE_Z + INNER_BYTES;
 
-pub const STATE_R: usize = STATE_DEAL + DEAL_R;
-
-pub const STATE_OWN_MASK: usize = STATE_DEAL + DEAL_BYTES;
+pub const STATE_OWN_MASK: usize = STATE_R + TRITS_BYTES;
 
 pub const STATE_BYTES: usize = STATE_OWN_MASK + INNER_BYTES;
 

@@ -173,7 +173,7 @@ fn run_units(input: &[u8], out: &mut [u8])
     let unit1 = two.next1;
     let share0 = share_frame(unit0, mask1, file);
     let share1 = share_frame(unit1, mask0, file);
-    add_shares(&share0, &share1, out);
+    add_shares(BASE, &share0, &share1, out);
 }
 
 // The lowest number over all of the input, or 0 and the code, by running the dealer and both units in session 1.

@@ -1,8 +1,9 @@
--- `pair_counter::join::join` meets its contract: what is accepted has two frames of 28 bytes and room for the code.
+-- `pair_counter::join::join` meets its contract: what is accepted has two share frames and room for the code.
 use mathlib.Core.Path.{sym, _∙_}
 use borrow.Author.Needs.{needs}
 use borrow.Author.Tests.{ne-eqb}
 use Rattle.numbers.specs.Number.{output}
+use Rattle.pair_frames.proofs.Bases.{base-fits}
 use Rattle.pair_model.specs.Base.{base}
 use Rattle.pair_model.proofs.Internal.Joins.{join-fits}
 use Rattle.pair_counter.proofs.join.join.Statement.{statement}
@@ -15,10 +16,10 @@ returns c = (c .before .join-number .ensures, simp (ne-eqb _ _ (c .if1 .taken)))
 add-shares-requires : tie.Need-add-shares-requires
 add-shares-requires c κs =
     let f = join-fits base _ _ _ (sym (c .before .before .join-number .ensures) ∙ c .before .if1 .left) in
-    (f .first-length, f .second-length, f .room)
+    (base-fits, f .first-length, f .second-length, f .room)
 
 returns-2 : tie.Need-returns-2
 returns-2 c = (sym (c .before .before .before .before .if1 .left) ∙ c .before .before .before .before .before .join-number .ensures, c .before .before .add-shares .ensures)
 
 pub join-spec : {M : Type 1} → statement M
-join-spec = tie.close (tie.spec (λ c κs. search needs) returns add-shares-requires (λ c. search needs) returns-2)
+join-spec = tie.close (tie.spec (λ c κs. base-fits) returns add-shares-requires (λ c. search needs) returns-2)

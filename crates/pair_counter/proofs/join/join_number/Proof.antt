@@ -8,9 +8,9 @@ use borrow.Author.Tests.{le-ltb, eq-eqb, ne-eqb}
 use lib.ListN.{length}
 use Rattle.numbers.specs.Number.{first}
 use Rattle.pair_frames.specs.Headers.{headerOf}
-use Rattle.pair_frames.proofs.Bases.{base-fits}
-use Rattle.pair_model.specs.Base.{base}
-use Rattle.pair_model.specs.Frame.{shareKind, codeBytes}
+use Rattle.pair_frames.specs.Schemes.{schemeOf}
+use Rattle.pair_model.specs.Scheme.{Scheme}
+use Rattle.pair_model.specs.Frame.{shareKind, codeBytes, frameBytes}
 use Rattle.pair_model.specs.Header.{fields, headerNumber}
 use Rattle.pair_model.specs.Join.{joinConditions}
 use Rattle.pair_model.proofs.Internal.Headers.{fields-whole, not-whole}
@@ -20,8 +20,8 @@ use Rattle.pair_counter.proofs.join.join_number.Tie as tie
 
 -- the lower of both refusals
 lowest : (c : tie.After-lower)
-    → c .lower .result ≡ lowerOf (headerNumber (shareRead base (c .before .before .before .before .before .before .before .before .args .f .now)))
-    (headerNumber (shareRead base (c .before .before .before .before .before .before .before .before .args .g .now)))
+    → c .lower .result ≡ lowerOf (headerNumber (shareRead (schemeOf (c .before .before .before .before .before .before .before .before .before .args .sizes)) (c .before .before .before .before .before .before .before .before .before .args .f .now)))
+    (headerNumber (shareRead (schemeOf (c .before .before .before .before .before .before .before .before .before .args .sizes)) (c .before .before .before .before .before .before .before .before .before .args .g .now)))
 lowest c =
     let h = c .before .before in
     let r = h .before .before in
@@ -30,35 +30,37 @@ lowest c =
 
 -- the fields of the first frame, and of the second, where both have been read
 first-read : (c : tie.After-p)
-    → shareRead base (c .before .before .before .before .before .before .before .before .before .before .args .f .now)
+    → shareRead (schemeOf (c .before .before .before .before .before .before .before .before .before .before .before .args .sizes)) (c .before .before .before .before .before .before .before .before .before .before .before .args .f .now)
     ≡ fields (c .p .given .0 .0) (c .p .given .0 .1 .0) (c .p .given .0 .1 .1 .0) (c .p .given .0 .1 .1 .1 .0)
 first-read c = sym (c .before .before .before .before .before .before .read-header .ensures) ∙ ap headerOf (c .p .given .1)
 
 second-read : (c : tie.After-q)
-    → shareRead base (c .before .before .before .before .before .before .before .before .before .before .before .before .before .args .g .now)
+    → shareRead (schemeOf (c .before .before .before .before .before .before .before .before .before .before .before .before .before .before .args .sizes)) (c .before .before .before .before .before .before .before .before .before .before .before .before .before .before .args .g .now)
     ≡ fields (c .q .given .0 .0) (c .q .given .0 .1 .0) (c .q .given .0 .1 .1 .0) (c .q .given .0 .1 .1 .1 .0)
 second-read c = sym (c .before .before .before .before .before .before .before .before .read-header2 .ensures) ∙ ap headerOf (c .q .given .1)
 
 returns : tie.Need-returns
-returns c = join-room base _ _ _ (c .if1 .taken)
+returns c = join-room (schemeOf (c .before .before .before .before .args .sizes)) _ _ _ (c .if1 .taken)
 
 returns-2 : tie.Need-returns-2
 returns-2 c =
     let l = c .before .before in
     let h = l .before .before .before .before in
+    let S = schemeOf (h .before .before .before .before .before .args .sizes) in
     lowest l
-    ∙ join-refused base _ _ _ (h .before .if1 .left)
-    (λ w v. not-whole base shareKind shareKind _ (sym (h .read-header .ensures) ∙ ap headerOf (c .enum-told .given .1)) w)
+    ∙ join-refused S _ _ _ (h .before .if1 .left)
+    (λ w v. not-whole S shareKind shareKind _ (sym (h .read-header .ensures) ∙ ap headerOf (c .enum-told .given .1)) w)
 
 returns-3 : tie.Need-returns-3
 returns-3 c =
     let l = c .before .before .before .before .before in
     let h = l .before .before .before in
+    let S = schemeOf (h .before .before .before .before .before .before .args .sizes) in
     lowest l
-    ∙ join-refused base _ _ _ (h .before .before .if1 .left)
-    (λ w v. not-whole base shareKind shareKind _ (sym (h .read-header2 .ensures) ∙ ap headerOf (c .enum-told2 .given .1)) v)
+    ∙ join-refused S _ _ _ (h .before .before .if1 .left)
+    (λ w v. not-whole S shareKind shareKind _ (sym (h .read-header2 .ensures) ∙ ap headerOf (c .enum-told2 .given .1)) v)
 
-room : (c : tie.After-p) → codeBytes base ≤ c .before .before .before .before .before .before .before .before .before .before .args .room
+room : (c : tie.After-p) → codeBytes (schemeOf (c .before .before .before .before .before .before .before .before .before .before .before .args .sizes)) ≤ c .before .before .before .before .before .before .before .before .before .before .before .args .room
 room c = c .before .before .before .before .before .before .before .if1 .left
 
 returns-4 : tie.Need-returns-4
@@ -84,35 +86,44 @@ returns-6 c =
     let p = q .before .before .before in
     simp (le-ltb _ _ (room p), first-read p, second-read q, eq-eqb _ _ (i .if2 .left), eq-eqb _ _ (c .before .if3 .left), ne-eqb _ _ (c .if4 .taken))
 
--- a frame whose fields were read has 28 bytes
-long : (f : List ℕ) {kind side session body : ℕ} → shareRead base f ≡ fields kind side session body → length f ≡ 28
-long f e = share-long base f (fields-whole base shareKind shareKind f e)
+-- a frame whose fields were read has its kind's length
+long : (S : Scheme) (f : List ℕ) {kind side session body : ℕ} → shareRead S f ≡ fields kind side session body → length f ≡ frameBytes S shareKind
+long S f e = share-long S f (fields-whole S shareKind shareKind f e)
 
-part-share-number-end : tie.Need-part-share-number-end
-part-share-number-end c = omega (arith, long _ (first-read (c .before .before .before .before .before .before .before)))
+share-number-requires : tie.Need-share-number-requires
+share-number-requires c κs =
+    let p = c .before .before .before .before .before .before .before in
+    let s = p .before .before .before .before .before .before .before .before .before .before .before in
+    (s .pre, long (schemeOf (s .args .sizes)) (s .args .f .now) (first-read p))
 
-part-share-number-end-2 : tie.Need-part-share-number-end-2
-part-share-number-end-2 c = omega (arith, long _ (second-read (c .before .before .before .before .before .before)))
+share-number-requires-2 : tie.Need-share-number-requires-2
+share-number-requires-2 c κs =
+    let q = c .before .before .before .before .before in
+    let s = q .before .before .before .before .before .before .before .before .before .before .before .before .before .before in
+    (s .pre, long (schemeOf (s .args .sizes)) (s .args .g .now) (second-read q))
 
 returns-7 : tie.Need-returns-7
 unfolding first joinConditions
 returns-7 c =
-    let j = c .before .before .before .before .before in
+    let j = c .before .before .before in
     let i = j .before .before in
     let q = i .before .before in
     let p = q .before .before .before in
-    let a = p .before .before .before .before .before .before .before .before .before .before .args in
-    c .lower2 .ensures ∙ (λ k. lowerOf (c .before .before .before .share-number .ensures k) (c .before .share-number2 .ensures k))
-    ∙ share-numbers base (a .f .now) (a .g .now) (long _ (first-read p)) (long _ (second-read q))
+    let a = p .before .before .before .before .before .before .before .before .before .before .before .args in
+    let S = schemeOf (a .sizes) in
+    c .lower2 .ensures ∙ (λ k. lowerOf (c .before .before .share-number .ensures k) (c .before .share-number2 .ensures k))
+    ∙ share-numbers S (a .f .now) (a .g .now) (long S _ (first-read p)) (long S _ (second-read q))
     ∙ simp (le-ltb _ _ (room p), first-read p, second-read q, eq-eqb _ _ (i .if2 .left), eq-eqb _ _ (j .before .if3 .left), eq-eqb _ _ (j .if4 .left))
 
 pub join-number-spec : {M : Type 1} → statement M
 join-number-spec =
     tie.close
     (tie.spec
+    (λ c. omega (arith, c .before .before .before .pre .digits))
+    (λ c. omega (arith, c .before .before .before .pre .digits))
     returns
-    (λ c κs. base-fits)
-    (λ c κs. base-fits)
+    (λ c κs. c .before .before .before .before .pre)
+    (λ c κs. c .before .before .before .before .before .pre)
     (λ c κs. search needs)
     (λ c κs. search needs)
     (λ c κs. search needs)
@@ -125,13 +136,7 @@ join-number-spec =
     returns-4
     returns-5
     returns-6
-    (λ c. search needs)
-    (λ c. search needs)
-    part-share-number-end
-    (λ c κs. search needs)
-    (λ c. search needs)
-    (λ c. search needs)
-    part-share-number-end-2
-    (λ c κs. search needs)
+    share-number-requires
+    share-number-requires-2
     (λ c κs. search needs)
     returns-7)

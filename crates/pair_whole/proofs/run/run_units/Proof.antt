@@ -8,6 +8,7 @@ use native.Mathlib.Nat.{le-refl}
 use lib.Dec.{lit<}
 use lib.ListN.{length}
 use Rattle.numbers.specs.Number.{output}
+use Rattle.pair_frames.proofs.Bases.{base-fits}
 use Rattle.pair_model.specs.Scheme.{side0, side1}
 use Rattle.pair_model.specs.Base.{base}
 use Rattle.pair_model.specs.Frame.{codeBytes}
@@ -38,7 +39,7 @@ add-shares-requires c κs =
     let s1 = c .before .before .before .share-frame2 in
     let l0 : length (s0 .result) ≡ 28 = omega arith in
     let l1 : length (s1 .result) ≡ 28 = omega arith in
-    (l0, l1, c .before .before .before .before .before .before .before .before .before .before .before .before .before .before .pre .room-is)
+    (base-fits, l0, l1, c .before .before .before .before .before .before .before .before .before .before .before .before .before .before .pre .room-is)
 
 returns : tie.Need-returns
 returns c =
