@@ -74,17 +74,12 @@ pub fn unfit_words(v: &[u8], m: usize, t: usize) -> u64
     seen
 }
 
-// Whether no trit before place `t` has both bits set. The sizes in use are written out, so that each gets code of its own.
-pub fn trits_fit(v: &[u8], t: usize) -> bool
+// Whether no trit before place `t` has both bits set, for vectors of any length. The sizes in use are written out, so that each gets code
+// of its own.
+fn any_trits_fit(v: &[u8], t: usize) -> bool
     ensures { λ r. ⌜ r ≡ fitTrits (length (now (v .entry)) / 2) (min t (8 * (length (now (v .entry)) / 2))) (now (v .entry)) ⌝ }
 {
     let m = v.len() / 2;
-    if m == 32 && t == 256 {
-        return unfit_words(v, 32, t) == 0;
-    }
-    if m == 11 && t == 81 {
-        return unfit_words(v, 11, t) == 0;
-    }
     if m == 8 && t == 64 {
         return unfit_words(v, 8, t) == 0;
     }
@@ -101,6 +96,21 @@ pub fn trits_fit(v: &[u8], t: usize) -> bool
         return unfit_words(v, m, t) == 0;
     }
     unfit_bytes(v, m, t) == 0
+}
+
+// The same. Document 01's sizes stand here alone, so that it is short enough to be compiled into its callers: called, its slice goes through
+// memory, which takes as long as the test.
+pub fn trits_fit(v: &[u8], t: usize) -> bool
+    ensures { λ r. ⌜ r ≡ fitTrits (length (now (v .entry)) / 2) (min t (8 * (length (now (v .entry)) / 2))) (now (v .entry)) ⌝ }
+{
+    let m = v.len() / 2;
+    if m == 32 && t == 256 {
+        return unfit_words(v, 32, t) == 0;
+    }
+    if m == 11 && t == 81 {
+        return unfit_words(v, 11, t) == 0;
+    }
+    any_trits_fit(v, t)
 }
 
 // The places of byte `i` of each plane, from `t` on, that have a bit set.

@@ -8,7 +8,6 @@ pub mod Vectors
 pub mod Linearity
 pub mod WordBits
 pub mod WordBytes
-pub mod Packing
 pub mod Copies
 pub mod Filling
 -- The laws of what only the functions of this layer do.

@@ -4,17 +4,9 @@ ghost use Prim.Native.Nat.{_+_, _*_, _/_, _%_, _^_, _<_, _≤_};
 ghost use lib.ListN.{length};
 ghost use Rattle.linear_model.specs.Tables.{from};
 ghost use Rattle.linear_model.specs.Bits.{fromBits, bit};
-ghost use Rattle.linear_model.specs.Internal.Words.{setHalf, setWord, FourWords, setFour};
+ghost use Rattle.linear_model.specs.Internal.Words.{setHalf, setWord};
 use crate::bytes::byte_at;
 use crate::bytes::wide;
-
-// The words of 32 bytes.
-pub struct Four {
-    pub a: u64,
-    pub b: u64,
-    pub c: u64,
-    pub d: u64,
-}
 
 // Bits 8i to 8i + 31 of `s`, where it has as many.
 fn half(s: &[u8], i: usize) -> u64
@@ -46,19 +38,6 @@ fn last_word(s: &[u8], i: usize) -> u64
     acc
 }
 
-// Four words of `s`, from byte `i` on.
-pub fn four_words(s: &[u8], i: usize) -> Four
-    requires { ⌜ i + 32 ≤ length (now s) ⌝ }
-    ensures { λ r. ⌜ FourWords (bit (now (s .entry))) (8 * i) (r .a) (r .b) (r .c) (r .d) ⌝ }
-{
-    Four {
-        a: word(s, i),
-        b: word(s, i + 8),
-        c: word(s, i + 16),
-        d: word(s, i + 24),
-    }
-}
-
 // The byte of `x` from bit `k` on.
 pub fn byte_of(x: u64, k: usize) -> u8
     requires { ⌜ k < 64 ⌝ }
@@ -85,17 +64,6 @@ pub fn put_word(out: &mut [u8], i: usize, x: u64)
 {
     put_half(out, i, x);
     put_half(out, i + 4, x >> 32);
-}
-
-// Stores four words from byte `i` on.
-pub fn put_four(out: &mut [u8], i: usize, x: Four)
-    requires { ⌜ i + 32 ≤ length (now out) ⌝ }
-    ensures { λ _. ⌜ now (out .exit) ≡ setFour (now (out .entry)) i (x .a) (x .b) (x .c) (x .d) ⌝ }
-{
-    put_word(out, i, x.a);
-    put_word(out, i + 8, x.b);
-    put_word(out, i + 16, x.c);
-    put_word(out, i + 24, x.d);
 }
 
 // Bits 8i to 8i + 63 of `s`, as a word; past the end, 0.

@@ -63,7 +63,9 @@ pub const STATE_KEY: usize = HEADER_BYTES;
 
 pub const STATE_LABEL: usize = STATE_KEY + KEY_BYTES;
 
-pub const STATE_KEY_MASK: usize = STATE_LABEL + KEY_BYTES;
+pub const STATE_DEAL: usize = STATE_LABEL + KEY_BYTES;
+
+pub const STATE_KEY_MASK: usize = STATE_DEAL;
 
 pub const STATE_LABEL_MASK: usize = STATE_KEY_MASK + KEY_BYTES;
 

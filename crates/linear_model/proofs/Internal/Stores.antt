@@ -14,12 +14,12 @@ use lib.Seq.{getD-set-same, getD-set-other, paste, paste-suc}
 use Rattle.linear_model.specs.Tables.{from}
 use Rattle.linear_model.specs.Bits.{bit, bitAt, byteOf, fromBits, pack, sumBit}
 use Rattle.linear_model.specs.Trits.{low, high}
-use Rattle.linear_model.specs.Internal.Words.{FourWords, setHalf, setWord, setFour}
+use Rattle.linear_model.specs.Internal.Words.{setHalf, setWord}
 use Rattle.linear_model.specs.Internal.Planes.{PlaneBits}
 use Rattle.linear_model.proofs.NumberBits.{from-bits-ext, from-bits-lt, from-bits-of, bit-at-xor}
 use Rattle.linear_model.proofs.Strings.{bit-at, bit-lt, byte-is}
 use Rattle.linear_model.proofs.WordBits.{word-byte, word-bit-at}
-use Rattle.linear_model.proofs.Filling.{Filling, filling-none, filling-step, filling-all, Planes, planes-step}
+use Rattle.linear_model.proofs.Filling.{Filling, filling-step, filling-all, Planes, planes-step}
 
 -- ---- the bytes of a list with a word stored
 
@@ -134,16 +134,6 @@ planes-word {m} {f} {d} {i} {s} {x} {y} p small h a b l e =
     ∙ stored-byte (high f) (setWord s p x) p (m + p) y k (λ j. omega (arith, small j)) (e .high-is) (omega (arith, n, h .room, h .long)) q r)
     (λ k q. other k (λ j z. omega arith) (λ j z. omega arith)) (λ k q. other (m + k) (λ j z. omega arith) (λ j z. omega arith))
     (λ k q. other k (λ j z. omega arith) (λ j z. omega arith))
-
--- 32 bytes are those whose words are stored
-pub string-stored : (f : ℕ → ℕ) (s : List ℕ) (a b c d : ℕ) → ((j : ℕ) → f j < 2) → length s ≡ 32 → FourWords f 0 a b c d → setFour s 0 a b c d ≡ pack 32 f
-unfolding setFour
-string-stored f s a b c d small n q =
-    let z0 = filling-word small 0 a (filling-none {d = s}) (omega arith) (omega arith) (omega arith) (q .first) in
-    let z1 = filling-word small 8 b z0 (omega arith) (omega arith) (omega arith) (q .second) in
-    let z2 = filling-word small 16 c z1 (omega arith) (omega arith) (omega arith) (q .third) in
-    let z3 = filling-word small 24 d z2 (omega arith) (omega arith) (omega arith) (q .fourth) in
-    rw n at (filling-pack small z3 (omega (arith, z3 .long)))
 
 -- ---- sums of strings
 
