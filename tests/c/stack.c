@@ -193,19 +193,19 @@ static const struct call {
     unsigned tenths;       /* what service_pair.h says, in tenths of a KiB */
     const uint8_t *state;  /* what a step begins with */
 } calls[] = {
-    {"pair_matrix_check", matrix_check, 3, NULL},
-    {"pair_matrix_write", matrix_write, 13, NULL},
-    {"pair_matrix_read", matrix_read, 3, NULL},
-    {"pair_evaluate", evaluate, 6, NULL},
-    {"pair_sample", sample, 10, NULL},
-    {"pair_deal", deal, 3, NULL},
-    {"pair_deal_source", deal_source, 13, NULL},
-    {"pair_begin", begin, 3, NULL},
-    {"pair_step, deal", step_deal, 9, states[0]},
-    {"pair_step, open", step_open, 17, states[1]},
-    {"pair_step, mask", step_mask, 22, states[2]},
-    {"pair_join", join, 2, NULL},
-    {"pair_run", whole_run, 36, NULL},
+    {"pair_matrix_check", matrix_check, 4, NULL},
+    {"pair_matrix_write", matrix_write, 11, NULL},
+    {"pair_matrix_read", matrix_read, 4, NULL},
+    {"pair_evaluate", evaluate, 8, NULL},
+    {"pair_sample", sample, 4, NULL},
+    {"pair_deal", deal, 8, NULL},
+    {"pair_deal_source", deal_source, 11, NULL},
+    {"pair_begin", begin, 6, NULL},
+    {"pair_step, deal", step_deal, 1, states[0]},
+    {"pair_step, open", step_open, 28, states[1]},
+    {"pair_step, mask", step_mask, 27, states[2]},
+    {"pair_join", join, 3, NULL},
+    {"pair_run", whole_run, 47, NULL},
 };
 
 static void make_call(const struct call *call, uint8_t pattern, bool wiping)
