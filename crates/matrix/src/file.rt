@@ -8,7 +8,7 @@ ghost use Rattle.numbers.specs.Number.{first};
 ghost use Rattle.matrix_model.specs.File.{Fits, fileSize, rowsSize, rowsOf, fileFrom, faultsOf, checkNumberOf, readNumberOf, writeNumberOf, readOutputOf, writeOutputOf, SurvivesOf, RestoresOf, fileBytes, rowsBytes, checkNumber, readNumber, writeNumber, readOutput, writeOutput, Survives, Restores};
 ghost use Rattle.matrix_blocks.specs.Layouts.{layoutOf};
 use crate::document::matrix_b;
-use linear_words::bytes::put;
+use linear_words::copies::put;
 use matrix_blocks::blocks::block_of;
 use matrix_blocks::blocks::rows_of_block;
 use matrix_blocks::counts::block_count;

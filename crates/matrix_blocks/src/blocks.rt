@@ -11,7 +11,7 @@ use crate::counts::bytes_before;
 use crate::counts::bytes_in;
 use crate::counts::rows_in;
 use crate::layouts::Layout;
-use linear_words::bytes::put;
+use linear_words::copies::put;
 use matrix_model::sizes::BLOCK_BYTES;
 use matrix_model::sizes::CHECKED_BYTES;
 use matrix_model::sizes::HEAD_BYTES;

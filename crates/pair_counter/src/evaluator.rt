@@ -10,7 +10,7 @@ ghost use Rattle.pair_model.specs.Scheme.{files};
 ghost use Rattle.pair_model.specs.Base.{base};
 ghost use Rattle.pair_model.specs.Evaluator.{code, evaluateNumber};
 use linear::products::circulant_product;
-use linear_words::bytes::put;
+use linear_words::copies::put;
 use matrix::file::matrix_check;
 use matrix::product::file_product;
 use numbers::table::DONE;

@@ -13,7 +13,7 @@ use linear::bits::add_bits;
 use linear::bits::add_bits_to;
 use linear::products::circulant_product;
 use linear::trits::subtract_trits;
-use linear_words::bytes::put;
+use linear_words::copies::put;
 use pair_frames::frame::DEAL;
 use pair_frames::frame::header_bytes;
 use pair_frames::parameters::Parameters;

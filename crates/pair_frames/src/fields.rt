@@ -18,7 +18,7 @@ use crate::sizes::KEY_ROOM;
 use crate::sizes::Sizes;
 use crate::sizes::TRITS_ROOM;
 use linear::bits::add_bits;
-use linear_words::bytes::put;
+use linear_words::copies::put;
 
 // A deal: K̃i, x̃i, zi, ri, each in the front of its room.
 pub struct Deal {

@@ -8,7 +8,7 @@ ghost use Rattle.pair_model.specs.Sampler.{sampled, used, sampleNumber};
 ghost use Rattle.numbers.specs.Number.{output, reported};
 use crate::drawing::draw_trits;
 use crate::packing::pack;
-use linear_words::bytes::put;
+use linear_words::copies::put;
 use numbers::table::DONE;
 use numbers::table::SHORT_SOURCE;
 use numbers::table::WRONG_LENGTH;

@@ -11,7 +11,7 @@ ghost use Rattle.pair_model.specs.Frame.{parameters, dealKind, openKind, kindOf
 ghost use Rattle.pair_model.specs.Unit.{takeDeal, advance, stepNumber};
 ghost use Rattle.pair_model.specs.StateSlice.{stateBytes, encodeState, decodeState};
 ghost use Rattle.pair_units.specs.Units.{stateAt, stateOf};
-use linear_words::bytes::put;
+use linear_words::copies::put;
 use pair_frames::fields::read_deal;
 use pair_frames::fields::write_open_frame;
 use pair_frames::frame::header_bytes;

@@ -13,7 +13,7 @@ ghost use Rattle.pair_units.specs.Units.{stateAt, unitOf};
 use crate::state::IDLE;
 use crate::state::UnitState;
 use crate::state::WAITS_FOR_DEAL;
-use linear_words::bytes::put;
+use linear_words::copies::put;
 use numbers::table::DONE;
 use numbers::table::NO_SIDE;
 use numbers::table::WRONG_LENGTH;

@@ -23,7 +23,7 @@ use linear::bits::add_bits;
 use linear::bits::add_bits_to;
 use linear::products::circulant_product;
 use linear::trits::inner_share;
-use linear_words::bytes::put;
+use linear_words::copies::put;
 use matrix::product::file_product;
 use pair_frames::fields::read_deal;
 use pair_frames::fields::write_open_frame;

@@ -5,7 +5,7 @@ ghost use lib.ListN.{length};
 ghost use Rattle.numbers.specs.Number.{atFront};
 ghost use Rattle.pair_model.specs.Base.{base};
 ghost use Rattle.service_pair.specs.Printed.{resultLine, codeLine, digit as Printed·digit, printed as Printed·printed};
-use linear_words::bytes::put;
+use linear_words::copies::put;
 use matrix_model::sizes::PLANE_BYTES;
 use numbers::table::DONE;
 use pair_frames::sizes::CODE_BYTES;

@@ -1,4 +1,4 @@
--- `linear_words::bytes::put` meets its contract: the whole words are copied, then the bytes after them.
+-- `linear_words::copies::put` meets its contract: the whole words are copied, then the bytes after them.
 use mathlib.Core.Path.{_≡_, sym, ap, _∙_}
 use mathlib.Core.List.{List, _++_}
 use Prim.Native.Nat.{ℕ, _+_}
@@ -6,8 +6,8 @@ use native.Mathlib.Omega.{arith}
 use borrow.Author.Needs.{needs}
 use lib.ListN.{length, take, drop}
 use lib.Seq.{take-length}
-use Rattle.linear_words.proofs.bytes.put.Statement.{statement}
-use Rattle.linear_words.proofs.bytes.put.Tie as tie
+use Rattle.linear_words.proofs.copies.put.Statement.{statement}
+use Rattle.linear_words.proofs.copies.put.Tie as tie
 
 returns : tie.Need-returns
 returns c =

@@ -1,4 +1,4 @@
--- `linear_words::bytes::put_words` meets its contract. The invariant of its loop: the first i bytes are copied.
+-- `linear_words::copies::put_words` meets its contract. The invariant of its loop: the first i bytes are copied.
 use mathlib.Core.Path.{_≡_, ap, _∙_}
 use mathlib.Core.List.{List}
 use Prim.Native.Nat.{ℕ, _+_, _-_, _≤_}
@@ -7,8 +7,8 @@ use lib.ListN.{length}
 use lib.Seq.{paste, paste-zero}
 use Rattle.linear_model.specs.Internal.Words.{setWord}
 use Rattle.linear_model.proofs.Internal.Stores.{length-word, paste-word}
-use Rattle.linear_words.proofs.bytes.put_words.Statement.{statement}
-use Rattle.linear_words.proofs.bytes.put_words.Tie as tie
+use Rattle.linear_words.proofs.copies.put_words.Statement.{statement}
+use Rattle.linear_words.proofs.copies.put_words.Tie as tie
 
 abbrev Inv-loop : tie.InvT-loop
 Inv-loop s out₀ at i₀ out i = (i ≤ length s) × (length out ≡ length out₀) × (out ≡ paste out₀ at s i)

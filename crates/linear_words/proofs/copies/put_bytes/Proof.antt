@@ -1,4 +1,4 @@
--- `linear_words::bytes::put_bytes` meets its contract. The invariant of its loop: the first i bytes are copied.
+-- `linear_words::copies::put_bytes` meets its contract. The invariant of its loop: the first i bytes are copied.
 use mathlib.Core.Path.{_≡_, _∙_}
 use mathlib.Core.List.{List}
 use Prim.Native.Nat.{ℕ, _-_, _≤_}
@@ -6,8 +6,8 @@ use native.Mathlib.Numerals.{add-one}
 use native.Mathlib.Omega.{arith}
 use lib.ListN.{length, length-set}
 use lib.Seq.{paste, paste-suc}
-use Rattle.linear_words.proofs.bytes.put_bytes.Statement.{statement}
-use Rattle.linear_words.proofs.bytes.put_bytes.Tie as tie
+use Rattle.linear_words.proofs.copies.put_bytes.Statement.{statement}
+use Rattle.linear_words.proofs.copies.put_bytes.Tie as tie
 
 abbrev Inv-loop : tie.InvT-loop
 Inv-loop s out₀ at first i₀ out i =
