@@ -58,7 +58,7 @@ fn unfit_word(v: &[u8], m: usize, t: usize, i: usize) -> u64
 
 // The places before `t` that have both bits set, gathered in one word: that of all whole words of a plane, and where bytes are left of
 // its last eight.
-pub fn unfit_words(v: &[u8], m: usize, t: usize) -> u64
+fn unfit_words(v: &[u8], m: usize, t: usize) -> u64
     requires { ⌜ (8 ≤ m) × (m ≡ length (now v) / 2) ⌝ }
     ensures { λ r. ⌜ eqb r 0 ≡ every (8 * (length (now (v .entry)) / 2)) (fitBefore (length (now (v .entry)) / 2) t (now (v .entry))) ⌝ }
 {

@@ -1,21 +1,18 @@
 // Rows are judged where they stand: in the blocks of a file, or one after the other in a set of rows.
 ghost use mathlib.Core.Path.{_≡_};
-ghost use Prim.Native.Nat.{_+_, _*_, _/_, _<_, _≤_, min};
+ghost use Prim.Native.Nat.{_+_, _*_, _<_, _≤_};
 ghost use lib.ListN.{length, take, drop};
 ghost use Rattle.numbers.specs.Number.{first};
-ghost use Rattle.linear_model.specs.Trits.{fitTrits};
 ghost use Rattle.matrix_model.specs.File.{Fits, blockCount, rowFaultsOf};
 ghost use Rattle.matrix_model.specs.Internal.Rows.{rowsNumber, rowsHeld, heldBytes, rowsInSet};
 ghost use Rattle.matrix_blocks.specs.Layouts.{layoutOf};
 use linear::trits::row_is_zero;
 use linear::trits::trits_fit;
-use linear_fit::fit::unfit_words;
 use matrix_blocks::blocks::rows_of_block;
 use matrix_blocks::blocks::rows_of_set;
 use matrix_blocks::counts::block_count;
 use matrix_blocks::counts::rows_in;
 use matrix_blocks::layouts::Layout;
-use matrix_model::sizes::ROW_BYTES;
 use numbers::table::DONE;
 use numbers::table::UNFIT_TRIT;
 use numbers::table::ZERO_ROW;
@@ -29,23 +26,12 @@ fn row_of(rows: &[u8], n: usize, i: usize) -> &[u8]
     &rows[at..at + n]
 }
 
-// Whether no trit of a row before place `t` has both bits set. The size of document 01's row is written out, so that its test is
-// compiled into the loop over rows: a call for each row takes longer than the test.
-fn row_fits(row: &[u8], t: usize) -> bool
-    ensures { λ r. ⌜ r ≡ fitTrits (length (now (row .entry)) / 2) (min t (8 * (length (now (row .entry)) / 2))) (now (row .entry)) ⌝ }
-{
-    if row.len() == ROW_BYTES && t == 4 * ROW_BYTES {
-        return unfit_words(row, ROW_BYTES / 2, t) == 0;
-    }
-    trits_fit(row, t)
-}
-
 // The number of one row.
 fn row_number(layout: Layout, row: &[u8]) -> u32
     requires { ⌜ Fits (layoutOf layout) × (length (now row) ≡ layoutOf layout .rowBytes) ⌝ }
     ensures { λ r. ⌜ r ≡ rowsNumber (layoutOf layout) 1 (now (row .entry)) ⌝ }
 {
-    if row_fits(row, 4 * layout.row_bytes) {
+    if trits_fit(row, 4 * layout.row_bytes) {
         if row_is_zero(row) {
             return ZERO_ROW;
         }

@@ -12,19 +12,19 @@ returns c =
     let f = c .before .before .before in
     let a = f .before .before .before in
     rw (c .before .before .if1 .taken, c .if2 .taken)
-    at (one-row (layoutOf (a .args .layout)) (a .pre .0) (a .args .row .now) _ _ (a .pre .1) (f .row-fits .ensures) (c .before .row-is-zero .ensures))
+    at (one-row (layoutOf (a .args .layout)) (a .pre .0) (a .args .row .now) _ _ (a .pre .1) (f .trits-fit .ensures) (c .before .row-is-zero .ensures))
 
 returns-2 : tie.Need-returns-2
 returns-2 c =
     let f = c .before .before .before in
     let a = f .before .before .before in
     rw (c .before .before .if1 .taken, c .if2 .left)
-    at (one-row (layoutOf (a .args .layout)) (a .pre .0) (a .args .row .now) _ _ (a .pre .1) (f .row-fits .ensures) (c .before .row-is-zero .ensures))
+    at (one-row (layoutOf (a .args .layout)) (a .pre .0) (a .args .row .now) _ _ (a .pre .1) (f .trits-fit .ensures) (c .before .row-is-zero .ensures))
 
 returns-3 : tie.Need-returns-3
 returns-3 c =
     let a = c .before .before .before .before in
-    rw (c .if1 .left) at (one-row (layoutOf (a .args .layout)) (a .pre .0) (a .args .row .now) _ _ (a .pre .1) (c .before .row-fits .ensures) refl)
+    rw (c .if1 .left) at (one-row (layoutOf (a .args .layout)) (a .pre .0) (a .args .row .now) _ _ (a .pre .1) (c .before .trits-fit .ensures) refl)
 
 pub row-number-spec : {M : Type 1} → statement M
 row-number-spec =
