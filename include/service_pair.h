@@ -27,10 +27,10 @@
  *
  * STACK. What each call uses at most, arguments and return address included, in KiB, rounded up:
  *
- *     pair_matrix_check   0.4     pair_evaluate      0.8     pair_begin             0.6
- *     pair_matrix_read    0.4     pair_sample        0.4     pair_step, with deal   0.1
- *     pair_matrix_write   1.1     pair_deal          0.8     .. with open           2.8
- *     pair_join           0.3     pair_deal_source   1.1     .. with mask           2.7
+ *     pair_matrix_check   0.4     pair_evaluate      0.9     pair_begin             0.7
+ *     pair_matrix_read    0.4     pair_sample        0.4     pair_step, with deal   0.8
+ *     pair_matrix_write   1.1     pair_deal          1.0     .. with open           2.8
+ *     pair_join           0.3     pair_deal_source   1.3     .. with mask           3.2
  *                                                            pair_run               4.7
  *
  * A program that looks for memcpy at its first use (lazy binding) takes about 3.1 KiB more in the first call

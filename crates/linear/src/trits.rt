@@ -6,7 +6,8 @@ ghost use Prim.Native.Nat.{_*_, _/_, min};
 ghost use lib.ListN.{length, drop};
 ghost use Rattle.linear_model.specs.Trits.{addTrits, subtractTrits, innerShare, fitTrits, zeroTrits};
 use linear_fit::fit;
-use linear_trits::sums;
+use linear_shares::shares;
+use linear_sums::sums;
 
 // The sum of two trit vectors modulo 3, in the planes that `out` has room for.
 #[no_mangle]
@@ -29,7 +30,7 @@ pub extern "C" fn subtract_trits(w: &[u8], r: &[u8], out: &mut [u8])
         ++ drop (2 * (length (now (out .entry)) / 2)) (now (out .entry))
         ⌝ }
 {
-    sums::subtract_trits(w, r, out);
+    shares::subtract_trits(w, r, out);
 }
 
 // The inner share of a unit, r + ŵ × r, to which side 0 also adds ŵ, modulo 3, in the planes that `out` has room for.
@@ -41,7 +42,7 @@ pub extern "C" fn inner_share(side: u8, w: &[u8], r: &[u8], out: &mut [u8])
         ++ drop (2 * (length (now (out .entry)) / 2)) (now (out .entry))
         ⌝ }
 {
-    sums::inner_share(side, w, r, out);
+    shares::inner_share(side, w, r, out);
 }
 
 // Whether no trit before place `t` has both bits set.

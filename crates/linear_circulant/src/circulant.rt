@@ -7,7 +7,7 @@ ghost use Rattle.linear_model.specs.Bits.{byteOf, fromBits, bit};
 ghost use Rattle.linear_model.specs.Products.{bitRow, circulant, circulantProduct};
 ghost use Rattle.linear_model.specs.Internal.Words.{shiftTerm};
 use crate::halves;
-use crate::rotations;
+use linear_rotations::rotations;
 use linear_words::bytes;
 use linear_words::bytes::byte_at;
 use linear_words::bytes::wide;

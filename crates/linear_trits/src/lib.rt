@@ -1,4 +1,4 @@
-// Trit vectors in two planes: sums, differences and inner shares modulo 3.
-mod bitwise;
-mod operation;
-pub mod sums;
+// Trit vectors in two planes: what is made of a word or a byte of each plane, and of whole vectors byte by byte.
+pub mod bitwise;
+pub mod bytes;
+pub mod operation;

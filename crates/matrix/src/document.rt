@@ -4,13 +4,10 @@ ghost use Rattle.matrix_model.specs.File.{matrixB};
 ghost use Rattle.matrix_blocks.specs.Layouts.{layoutOf};
 use matrix_blocks::layouts::Layout;
 use matrix_model::sizes::BLOCK_ROWS;
+use matrix_model::sizes::LETTER;
 use matrix_model::sizes::ROW_BYTES;
 use matrix_model::sizes::ROW_COUNT;
-
-// Bytes 0 and 3 of every block.
-const LETTER: u8 = 0x42;
-
-const SET: u8 = 1;
+use matrix_model::sizes::SET;
 
 // Its numbers are literals, so that what is called with them is compiled for them.
 pub fn matrix_b() -> Layout

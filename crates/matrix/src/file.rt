@@ -1,131 +1,18 @@
-// The matrix file: its check, its reader and its writer. Each first decides its number, over the whole of what it reads, and then
-// writes.
+// The matrix file: its check, its reader and its writer.
 ghost use mathlib.Core.Path.{_≡_};
-ghost use mathlib.Core.List.{_++_};
-ghost use Prim.Native.Nat.{_≤_};
-ghost use lib.ListN.{length, take, drop};
-ghost use Rattle.numbers.specs.Number.{first};
-ghost use Rattle.matrix_model.specs.File.{Fits, fileSize, rowsSize, rowsOf, fileFrom, faultsOf, checkNumberOf, readNumberOf, writeNumberOf, readOutputOf, writeOutputOf, SurvivesOf, RestoresOf, fileBytes, rowsBytes, checkNumber, readNumber, writeNumber, readOutput, writeOutput, Survives, Restores};
-ghost use Rattle.matrix_blocks.specs.Layouts.{layoutOf};
+ghost use lib.ListN.{length, take};
+ghost use Rattle.matrix_model.specs.File.{fileBytes, rowsBytes, checkNumber, readNumber, writeNumber, readOutput, writeOutput, Survives, Restores};
 use crate::document::matrix_b;
-use linear_words::copies::put;
-use matrix_blocks::blocks::block_of;
-use matrix_blocks::blocks::rows_of_block;
-use matrix_blocks::counts::block_count;
-use matrix_blocks::counts::bytes_before;
-use matrix_blocks::counts::file_size;
-use matrix_blocks::counts::rows_size;
-use matrix_blocks::faults::bad_check;
-use matrix_blocks::faults::bad_layout;
-use matrix_blocks::layouts::Layout;
-use matrix_model::sizes::BLOCK_BYTES;
-use matrix_rows::rows::all_rows_number;
-use numbers::table::BLOCK_CHECK;
-use numbers::table::BLOCK_LAYOUT;
-use numbers::table::DONE;
-use numbers::table::WRONG_LENGTH;
-
-// ---- for any layout that fits
-
-// The number of a file of the right length: a check over all blocks before any layout, and so on.
-fn file_number(layout: Layout, file: &[u8]) -> u32
-    requires { ⌜ Fits (layoutOf layout) × (length (now file) ≡ fileSize (layoutOf layout)) ⌝ }
-    ensures { λ r. ⌜ r ≡ first (faultsOf (layoutOf layout) (now (file .entry))) ⌝ }
-{
-    if bad_check(layout, file) {
-        return BLOCK_CHECK;
-    }
-    if bad_layout(layout, file) {
-        return BLOCK_LAYOUT;
-    }
-    all_rows_number(layout, file, true)
-}
-
-// The number of any bytes.
-fn check_of(layout: Layout, file: &[u8]) -> u32
-    requires { ⌜ Fits (layoutOf layout) ⌝ }
-    ensures { λ r. ⌜ r ≡ checkNumberOf (layoutOf layout) (now (file .entry)) ⌝ }
-{
-    if file.len() != file_size(layout) {
-        return WRONG_LENGTH;
-    }
-    file_number(layout, file)
-}
-
-// Writes the rows of a file.
-fn write_rows(layout: Layout, file: &[u8], out: &mut [u8])
-    requires { ⌜ Fits (layoutOf layout) × (length (now file) ≡ fileSize (layoutOf layout)) × (rowsSize (layoutOf layout) ≤ length (now out)) ⌝ }
-    ensures { λ _. ⌜ now (out .exit) ≡ rowsOf (layoutOf layout) (now (file .entry)) ++ drop (rowsSize (layoutOf layout)) (now (out .entry)) ⌝ }
-{
-    let n = block_count(layout);
-    let mut b: usize = 0;
-    while b < n {
-        put(rows_of_block(layout, file, b), out, bytes_before(layout, b));
-        b += 1;
-    }
-}
-
-// Writes the file of a set of rows.
-fn write_blocks(layout: Layout, rows: &[u8], out: &mut [u8])
-    requires { ⌜ Fits (layoutOf layout) × (length (now rows) ≡ rowsSize (layoutOf layout)) × (fileSize (layoutOf layout) ≤ length (now out)) ⌝ }
-    ensures { λ _. ⌜ now (out .exit) ≡ fileFrom (layoutOf layout) (now (rows .entry)) ++ drop (fileSize (layoutOf layout)) (now (out .entry)) ⌝ }
-{
-    let n = block_count(layout);
-    let mut b: usize = 0;
-    while b < n {
-        let block = block_of(layout, rows, b);
-        put(&block, out, BLOCK_BYTES * b);
-        b += 1;
-    }
-}
-
-// The reader.
-fn read_of(layout: Layout, file: &[u8], out: &mut [u8]) -> u32
-    requires { ⌜ Fits (layoutOf layout) ⌝ }
-    ensures result { λ r. ⌜ r ≡ readNumberOf (layoutOf layout) (now (file .entry)) (length (now (out .entry))) ⌝ }
-    ensures output { λ _. ⌜ now (out .exit) ≡ readOutputOf (layoutOf layout) (now (file .entry)) (now (out .entry)) ⌝ }
-    ensures round_trip { λ r. ⌜ (r ≡ 0 → RestoresOf (layoutOf layout) (take (rowsSize (layoutOf layout)) (now (out .exit))) (now (file .entry))) ⌝ }
-{
-    if out.len() < rows_size(layout) {
-        return WRONG_LENGTH;
-    }
-    let number = check_of(layout, file);
-    if number != DONE {
-        return number;
-    }
-    write_rows(layout, file, out);
-    DONE
-}
-
-// The writer.
-fn write_of(layout: Layout, rows: &[u8], out: &mut [u8]) -> u32
-    requires { ⌜ Fits (layoutOf layout) ⌝ }
-    ensures result { λ r. ⌜ r ≡ writeNumberOf (layoutOf layout) (now (rows .entry)) (length (now (out .entry))) ⌝ }
-    ensures output { λ _. ⌜ now (out .exit) ≡ writeOutputOf (layoutOf layout) (now (rows .entry)) (now (out .entry)) ⌝ }
-    ensures round_trip { λ r. ⌜ (r ≡ 0 → SurvivesOf (layoutOf layout) (now (rows .entry)) (take (fileSize (layoutOf layout)) (now (out .exit)))) ⌝ }
-{
-    if rows.len() != rows_size(layout) {
-        return WRONG_LENGTH;
-    }
-    if out.len() < file_size(layout) {
-        return WRONG_LENGTH;
-    }
-    let number = all_rows_number(layout, rows, false);
-    if number != DONE {
-        return number;
-    }
-    write_blocks(layout, rows, out);
-    DONE
-}
-
-// ---- for document 01's
+use matrix_files::file::file_check;
+use matrix_files::file::file_read;
+use matrix_files::file::file_write;
 
 // The matrix check: the number of a file, and no more.
 #[no_mangle]
 pub extern "C" fn matrix_check(file: &[u8]) -> u32
     ensures { λ r. ⌜ r ≡ checkNumber (now (file .entry)) ⌝ }
 {
-    check_of(matrix_b(), file)
+    file_check(matrix_b(), file)
 }
 
 // The reader: writes the 5,184 bytes of the rows of a file.
@@ -134,7 +21,7 @@ pub fn matrix_read(file: &[u8], out: &mut [u8]) -> u32
     ensures output { λ _. ⌜ now (out .exit) ≡ readOutput (now (file .entry)) (now (out .entry)) ⌝ }
     ensures round_trip { λ r. ⌜ (r ≡ 0 → Restores (take rowsBytes (now (out .exit))) (now (file .entry))) ⌝ }
 {
-    read_of(matrix_b(), file, out)
+    file_read(matrix_b(), file, out)
 }
 
 // The writer: writes the 6,144 bytes of the file of 81 rows.
@@ -143,5 +30,5 @@ pub fn matrix_write(rows: &[u8], out: &mut [u8]) -> u32
     ensures output { λ _. ⌜ now (out .exit) ≡ writeOutput (now (rows .entry)) (now (out .entry)) ⌝ }
     ensures round_trip { λ r. ⌜ (r ≡ 0 → Survives (now (rows .entry)) (take fileBytes (now (out .exit)))) ⌝ }
 {
-    write_of(matrix_b(), rows, out)
+    file_write(matrix_b(), rows, out)
 }

@@ -12,6 +12,11 @@ pub const FIRST_SUM: usize = CHECKED_BYTES;
 
 pub const SECOND_SUM: usize = CHECKED_BYTES + 1;
 
+// Bytes 0 and 3 of every block.
+pub const LETTER: u8 = 0x42;
+
+pub const SET: u8 = 1;
+
 // A row: two planes of trits.
 pub const ROW_TRITS: usize = 256;
 

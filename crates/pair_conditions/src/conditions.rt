@@ -10,7 +10,6 @@ ghost use Rattle.pair_frames.specs.Schemes.{schemeOf, Fits};
 ghost use Rattle.pair_model.specs.Frame.{maskKind, kindOf, frameBytes};
 ghost use Rattle.pair_model.specs.Unit.{expectedSide, lengthConditions, headerConditions, contentConditions, stepNumber};
 use linear::trits::trits_fit;
-use matrix::file::matrix_check;
 use numbers::table::DONE;
 use numbers::table::NOT_WAITED_FOR;
 use numbers::table::OTHER_SESSION;
@@ -26,8 +25,9 @@ use pair_frames::frame::header_number;
 use pair_frames::frame::read_header;
 use pair_frames::header::Header;
 use pair_frames::parameters::Parameters;
-use pair_frames::sizes::FILE_BYTES;
 use pair_frames::sizes::Sizes;
+use pair_matrix::rows::file_bytes;
+use pair_matrix::rows::file_number;
 
 // Whether the step reads the file: the frame has a first byte and it is 3.
 fn reads_file(f: &[u8]) -> bool
@@ -57,10 +57,13 @@ fn length_number(sizes: Sizes, f: &[u8], file: &[u8], room: usize) -> u32
     if room < frame_bytes(sizes, OPEN) {
         return WRONG_LENGTH;
     }
-    if file.len() == FILE_BYTES {
-        return DONE;
+    if reads_file(f) {
+        if file.len() == file_bytes(sizes) {
+            return DONE;
+        }
+        return WRONG_LENGTH;
     }
-    if reads_file(f) { WRONG_LENGTH } else { DONE }
+    DONE
 }
 
 // The number as far as the header and what the unit waits for decide it.
@@ -99,7 +102,7 @@ fn content_number(sizes: Sizes, f: &[u8], file: &[u8]) -> u32
     ensures { λ r. ⌜ r ≡ first (contentConditions (schemeOf sizes) (now (f .entry)) (files (now (file .entry)))) ⌝ }
 {
     if reads_file(f) {
-        return matrix_check(file);
+        return file_number(sizes, file);
     }
     if f[0] != DEAL {
         return DONE;

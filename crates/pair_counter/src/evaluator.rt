@@ -5,21 +5,18 @@ ghost use lib.ListN.{length, take};
 ghost use Rattle.linear_model.specs.Trits.{bitTrits};
 ghost use Rattle.linear_model.specs.Products.{circulantProduct};
 ghost use Rattle.numbers.specs.Number.{output};
-ghost use Rattle.pair_frames.specs.Schemes.{Fits};
+ghost use Rattle.pair_frames.specs.Schemes.{schemeOf, Fits};
 ghost use Rattle.pair_model.specs.Scheme.{files};
 ghost use Rattle.pair_model.specs.Base.{base};
 ghost use Rattle.pair_model.specs.Evaluator.{code, evaluateNumber};
 use linear::products::circulant_product;
-use linear_words::copies::put;
-use matrix::file::matrix_check;
-use matrix::product::file_product;
 use numbers::table::DONE;
 use numbers::table::WRONG_LENGTH;
 use pair_frames::sizes::BASE;
-use pair_frames::sizes::CODE_BYTES;
-use pair_frames::sizes::KEY_BYTES;
 use pair_frames::sizes::Sizes;
 use pair_frames::sizes::TRITS_ROOM;
+use pair_matrix::rows::file_number;
+use pair_matrix::rows::write_code;
 
 // The inner vector of a key and a label, as trits: its bits are the low plane.
 fn inner_vector(sizes: Sizes, key: &[u8], label: &[u8]) -> [u8; TRITS_ROOM]
@@ -35,6 +32,34 @@ fn inner_vector(sizes: Sizes, key: &[u8], label: &[u8]) -> [u8; TRITS_ROOM]
 }
 
 // The code of a key and a label: B × (K × label modulo 2) modulo 3.
+fn evaluate_sized(sizes: Sizes, key: &[u8], label: &[u8], file: &[u8], out: &mut [u8]) -> u32
+    requires { ⌜ Fits sizes ⌝ }
+    ensures result { λ r. ⌜ r ≡ evaluateNumber (schemeOf sizes) (now (key .entry)) (now (label .entry)) (files (now (file .entry))) (length (now (out .entry))) ⌝ }
+    ensures output { λ r. ⌜
+        now (out .exit) ≡
+        output r (code (schemeOf sizes) (now (key .entry)) (now (label .entry)) (files (now (file .entry)))) (now (out .entry))
+        ⌝ }
+{
+    let planes = 2 * sizes.inner_bytes;
+    if key.len() != sizes.key_bytes {
+        return WRONG_LENGTH;
+    }
+    if label.len() != sizes.key_bytes {
+        return WRONG_LENGTH;
+    }
+    if out.len() < 2 * ((sizes.digits + 7) / 8) {
+        return WRONG_LENGTH;
+    }
+    let number = file_number(sizes, file);
+    if number != DONE {
+        return number;
+    }
+    let inner = inner_vector(sizes, key, label);
+    write_code(sizes, file, &inner[..planes], out);
+    DONE
+}
+
+// The same at the sizes of document 01.
 pub fn evaluate(key: &[u8], label: &[u8], file: &[u8], out: &mut [u8]) -> u32
     ensures result { λ r. ⌜ r ≡ evaluateNumber base (now (key .entry)) (now (label .entry)) (files (now (file .entry))) (length (now (out .entry))) ⌝ }
     ensures output { λ r. ⌜
@@ -42,20 +67,5 @@ pub fn evaluate(key: &[u8], label: &[u8], file: &[u8], out: &mut [u8]) -> u32
         output r (code base (now (key .entry)) (now (label .entry)) (files (now (file .entry)))) (now (out .entry))
         ⌝ }
 {
-    if key.len() != KEY_BYTES {
-        return WRONG_LENGTH;
-    }
-    if label.len() != KEY_BYTES {
-        return WRONG_LENGTH;
-    }
-    if out.len() < CODE_BYTES {
-        return WRONG_LENGTH;
-    }
-    let number = matrix_check(file);
-    if number != DONE {
-        return number;
-    }
-    let code = file_product(file, inner_vector(BASE, key, label));
-    put(&code, out, 0);
-    DONE
+    evaluate_sized(BASE, key, label, file, out)
 }

@@ -1,8 +1,8 @@
 // The dealer: both deal frames, of a tape or of source bytes. No branch depends on a tape's bytes but the test of r0.
 ghost use mathlib.Core.Path.{_≡_};
-ghost use Prim.Native.Nat.{_≤_};
 ghost use lib.ListN.{length};
 ghost use Rattle.numbers.specs.Number.{output, reported};
+ghost use Rattle.pair_frames.specs.Schemes.{schemeOf, Fits};
 ghost use Rattle.pair_model.specs.Scheme.{noFiles};
 ghost use Rattle.pair_model.specs.Base.{base};
 ghost use Rattle.pair_model.specs.Frame.{sharedParameters};
@@ -10,24 +10,28 @@ ghost use Rattle.pair_model.specs.Sampler.{sampled, used};
 ghost use Rattle.pair_model.specs.Dealer.{dealt, dealNumber, dealSourceNumber, TakesAccepted};
 ghost use Rattle.pair_model.specs.Run.{protocol};
 ghost use Rattle.pair_model.specs.Theorem.{Privacy};
-ghost use Rattle.pair_sampler.specs.Sized.{sized};
 use linear::trits::trits_fit;
 use numbers::table::DONE;
 use numbers::table::UNFIT_TRIT;
 use numbers::table::WRONG_LENGTH;
 use pair_deals::frames::write_deal;
-use pair_frames::sizes::DEALT_BYTES;
+use pair_frames::sizes::BASE;
 use pair_frames::sizes::HEADER_BYTES;
-use pair_frames::sizes::INNER_BYTES;
-use pair_frames::sizes::KEY_BYTES;
-use pair_frames::sizes::TAPE_BYTES;
-use pair_sampler::sampler::sample;
+use pair_frames::sizes::INNER_ROOM;
+use pair_frames::sizes::KEY_ROOM;
+use pair_frames::sizes::Sizes;
+use pair_sampler::sampler::sample_sized;
 
-// The number of a deal of keys and inner strings of so many bytes.
-fn deal_number(key_bytes: usize, inner_bytes: usize, tape: &[u8], room: usize) -> u32
-    requires { ⌜ («key_bytes» ≤ 64) × («inner_bytes» ≤ 64) ⌝ }
-    ensures { λ n. ⌜ n ≡ dealNumber (sized «key_bytes» «inner_bytes») noFiles (now (tape .entry)) room ⌝ }
+// The bytes of the longest tape.
+const TAPE_ROOM: usize = 4 * KEY_ROOM + 4 * INNER_ROOM;
+
+// The number of a deal.
+fn deal_number(sizes: Sizes, tape: &[u8], room: usize) -> u32
+    requires { ⌜ Fits sizes ⌝ }
+    ensures { λ n. ⌜ n ≡ dealNumber (schemeOf sizes) noFiles (now (tape .entry)) room ⌝ }
 {
+    let key_bytes = sizes.key_bytes;
+    let inner_bytes = sizes.inner_bytes;
     let first_r = 4 * key_bytes + 2 * inner_bytes;
     let end = first_r + 2 * inner_bytes;
     if tape.len() != end {
@@ -43,20 +47,28 @@ fn deal_number(key_bytes: usize, inner_bytes: usize, tape: &[u8], room: usize) -
     }
 }
 
-// Deals a tape: the accepted ones and no other. Its frames stand in the views that `Privacy` speaks of, one pairing of accepted tapes
-// for all lists.
+// Deals a tape: the accepted ones and no other.
+fn deal_sized(sizes: Sizes, session: u32, tape: &[u8], out: &mut [u8]) -> u32
+    requires { ⌜ Fits sizes ⌝ }
+    ensures result { λ n. ⌜ n ≡ dealNumber (schemeOf sizes) noFiles (now (tape .entry)) (length (now (out .entry))) ⌝ }
+    ensures output { λ n. ⌜ now (out .exit) ≡ output n (dealt (schemeOf sizes) (sharedParameters session) noFiles (now (tape .entry))) (now (out .entry)) ⌝ }
+{
+    let number = deal_number(sizes, tape, out.len());
+    if number != DONE {
+        return number;
+    }
+    write_deal(sizes, session, tape, out);
+    DONE
+}
+
+// The same at the sizes of document 01. Its frames stand in the views that `Privacy` speaks of, one pairing of accepted tapes for all lists.
 pub fn deal(session: u32, tape: &[u8], out: &mut [u8]) -> u32
     ensures result { λ n. ⌜ n ≡ dealNumber base noFiles (now (tape .entry)) (length (now (out .entry))) ⌝ }
     ensures output { λ n. ⌜ now (out .exit) ≡ output n (dealt base (sharedParameters session) noFiles (now (tape .entry))) (now (out .entry)) ⌝ }
     ensures accepted_tapes { λ _. ⌜ TakesAccepted base ⌝ }
     ensures privacy { λ _. ⌜ Privacy (protocol base) ⌝ }
 {
-    let number = deal_number(KEY_BYTES, INNER_BYTES, tape, out.len());
-    if number != DONE {
-        return number;
-    }
-    write_deal(KEY_BYTES, INNER_BYTES, session, tape, out);
-    DONE
+    deal_sized(BASE, session, tape, out)
 }
 
 // A number, and the source bytes used.
@@ -76,23 +88,39 @@ fn refused(number: u32) -> Dealt
 }
 
 // Deals the tape that the sampler makes of source bytes.
+fn deal_source_sized(sizes: Sizes, session: u32, source: &[u8], out: &mut [u8]) -> Dealt
+    requires { ⌜ Fits sizes ⌝ }
+    ensures result { λ d. ⌜ d .result ≡ dealSourceNumber (schemeOf sizes) noFiles (now (source .entry)) (length (now (out .entry))) ⌝ }
+    ensures count { λ d. ⌜ d .used ≡ reported (d .result) (used (schemeOf sizes) (now (source .entry))) ⌝ }
+    ensures output { λ d. ⌜
+        now (out .exit) ≡
+        output (d .result) (dealt (schemeOf sizes) (sharedParameters session) noFiles (sampled (schemeOf sizes) (now (source .entry)))) (now (out .entry))
+        ⌝ }
+{
+    let key_bytes = sizes.key_bytes;
+    let inner_bytes = sizes.inner_bytes;
+    let tape_bytes = 4 * key_bytes + 4 * inner_bytes;
+    if out.len() < 2 * (HEADER_BYTES + 2 * key_bytes + 3 * inner_bytes) {
+        return refused(WRONG_LENGTH);
+    }
+    let mut tape = [0u8; TAPE_ROOM];
+    let s = sample_sized(sizes, source, &mut tape[..tape_bytes]);
+    if s.result != DONE {
+        return refused(s.result);
+    }
+    write_deal(sizes, session, &tape[..tape_bytes], out);
+    Dealt {
+        result: DONE,
+        used: s.used,
+    }
+}
+
+// The same at the sizes of document 01.
 pub fn deal_source(session: u32, source: &[u8], out: &mut [u8]) -> Dealt
     ensures result { λ d. ⌜ d .result ≡ dealSourceNumber base noFiles (now (source .entry)) (length (now (out .entry))) ⌝ }
     ensures count { λ d. ⌜ d .used ≡ reported (d .result) (used base (now (source .entry))) ⌝ }
     ensures output { λ d. ⌜ now (out .exit) ≡ output (d .result) (dealt base (sharedParameters session) noFiles (sampled base (now (source .entry)))) (now (out .entry)) ⌝ }
     ensures privacy { λ _. ⌜ Privacy (protocol base) ⌝ }
 {
-    if out.len() < DEALT_BYTES {
-        return refused(WRONG_LENGTH);
-    }
-    let mut tape = [0u8; TAPE_BYTES];
-    let s = sample(source, &mut tape);
-    if s.result != DONE {
-        return refused(s.result);
-    }
-    write_deal(KEY_BYTES, INNER_BYTES, session, &tape, out);
-    Dealt {
-        result: DONE,
-        used: s.used,
-    }
+    deal_source_sized(BASE, session, source, out)
 }

@@ -19,15 +19,13 @@ use Rattle.pair_model.specs.Frame.{Parameters, sharedParameters, parametersOf, 
 use Rattle.pair_model.specs.Dealer.{dealFrame, dealt, dealtBytes}
 use Rattle.pair_model.proofs.Internal.Fields.{tape-K̃0, tape-K̃1, tape-x̃0, tape-x̃1, tape-w̃, tape-z0, tape-r0}
 use Rattle.pair_model.proofs.Internal.Deals.{fit-r0, deal-written}
-use Rattle.pair_model.proofs.Internal.FieldCopies.{FieldsCopied, fields-front}
-use Rattle.pair_sampler.specs.Sized.{sized}
+use Rattle.pair_model.proofs.Internal.FieldCopies.{FieldsCopied, fields-none, fields-more, fields-front}
+use Rattle.pair_frames.specs.declared.sizes.Sizes.{Sizes}
+use Rattle.pair_frames.specs.Schemes.{schemeOf}
 
 -- the k bytes from a to b
 pub cut : (a b k : ℕ) (t : List ℕ) → b ≡ a + k → take (b - a) (drop a t) ≡ take k (drop a t)
 cut a b k t e = let q : b - a ≡ k = omega arith in ap (λ (x : ℕ). take x (drop a t)) q
-
-pub cut-long : (a b k : ℕ) (t : List ℕ) → b ≡ a + k → a + k ≤ length t → length (take (b - a) (drop a t)) ≡ k
-cut-long a b k t e h = ap length (cut a b k t e) ∙ length-take-le k (drop a t) (rw length-drop (omega arith))
 
 -- n bytes in front
 pub front-long : (n : ℕ) (x y : List ℕ) → length x ≡ n → n ≤ length (x ++ y)
@@ -37,85 +35,157 @@ pub front-part : (n : ℕ) (x y : List ℕ) → length x ≡ n → n ≡ length 
 front-part n x y e = sym (ap length (take-at x y n e) ∙ e)
 
 -- a part that is written where it stands is copied there
-pub part-pasted : (k n : ℕ) (o v : List ℕ) → length v ≡ n → take k o ++ (v ++ drop n (drop k o)) ≡ pasted k v o
+part-pasted : (k n : ℕ) (o v : List ℕ) → length v ≡ n → take k o ++ (v ++ drop n (drop k o)) ≡ pasted k v o
 part-pasted k n o v e =
     ap (λ (x : List ℕ). take k o ++ (v ++ x)) (drop-drop n k o ∙ ap (λ (x : ℕ). drop (k + x) o) (sym e))
     ∙ sym (append-assoc (take k o) v (drop (k + length v) o))
 
 -- a header has six bytes
-pub header-long : (kind : ℕ) (t : Parameters) → length (header kind t) ≡ 6
+header-long : (kind : ℕ) (t : Parameters) → length (header kind t) ≡ 6
 unfolding header
 header-long kind t = refl
 
-module _ (n m : ℕ) (t : List ℕ) where
+abbrev key : Sizes → ℕ
+key sizes = sizes .«key_bytes»
+
+abbrev inner : Sizes → ℕ
+inner sizes = sizes .«inner_bytes»
+
+module _ (sizes : Sizes) (t : List ℕ) where
   -- z1, by its steps
-  pub z-is : (K X o₁ o₂ o₃ : List ℕ) → K ≡ addBits n (take n t) (take (2 * n - n) (drop n t))
-      → X ≡ addBits n (take (3 * n - 2 * n) (drop (2 * n) t)) (take (4 * n - 3 * n) (drop (3 * n) t)) → o₁ ≡ circulantProduct m K X
-      → o₂ ≡ addBits m o₁ (take (4 * n + m + m - (4 * n + m)) (drop (4 * n + m) t)) → o₃ ≡ addBits m o₂ (take (4 * n + m - 4 * n) (drop (4 * n) t))
-      → o₃ ≡ z (sized n m) noFiles t side1
+  pub z-is : (K X o₁ o₂ o₃ : List ℕ) → K ≡ addBits (key sizes) (take (key sizes) t) (take (2 * key sizes - key sizes) (drop (key sizes) t))
+      → X ≡ addBits (key sizes) (take (3 * key sizes - 2 * key sizes) (drop (2 * key sizes) t)) (take (4 * key sizes - 3 * key sizes) (drop (3 * key sizes) t)) → o₁ ≡ circulantProduct (inner sizes) K X
+      → o₂ ≡ addBits (inner sizes) o₁ (take (4 * key sizes + inner sizes + inner sizes - (4 * key sizes + inner sizes)) (drop (4 * key sizes + inner sizes) t)) → o₃ ≡ addBits (inner sizes) o₂ (take (4 * key sizes + inner sizes - 4 * key sizes) (drop (4 * key sizes) t))
+      → o₃ ≡ z (schemeOf sizes) noFiles t side1
   unfolding z
   z-is K X o₁ o₂ o₃ eK eX e₁ e₂ e₃ =
-      let S = sized n m in
+      let S = schemeOf sizes in
+      let n = key sizes in
+      let m = inner sizes in
       let k = eK ∙ ap₂ (λ (a b : List ℕ). addBits n a b) (tape-K̃0 S t) (cut n (2 * n) n t (omega arith) ∙ tape-K̃1 S t) in
       let x = eX ∙ ap₂ (λ (a b : List ℕ). addBits n a b) (cut (2 * n) (3 * n) n t (omega arith) ∙ tape-x̃0 S t) (cut (3 * n) (4 * n) n t (omega arith) ∙ tape-x̃1 S t) in
       let p = e₁ ∙ ap₂ (λ (a b : List ℕ). circulantProduct m a b) k x in
       let s = e₂ ∙ ap₂ (λ (a b : List ℕ). addBits m a b) p (cut (4 * n + m) (4 * n + m + m) m t refl ∙ tape-z0 S t) ∙ add-comm m _ _ in
       e₃ ∙ ap₂ (λ (a b : List ℕ). addBits m a b) s (cut (4 * n) (4 * n + m) m t refl ∙ tape-w̃ S t)
 
-  pub z-long : length (z (sized n m) noFiles t side1) ≡ m
+  z-long : length (z (schemeOf sizes) noFiles t side1) ≡ inner sizes
   unfolding z
-  z-long = bytes-add m _ _ .size
+  z-long =
+      let m = inner sizes in
+      bytes-add m _ _ .size
 
   -- r1, where all of the output is written
-  pub r-is : (d o : List ℕ) → length d ≡ 2 * m
-      → o ≡ subtractTrits (length d / 2) (take (4 * n + m - 4 * n) (drop (4 * n) t)) (take (4 * n + 2 * m + 2 * m - (4 * n + 2 * m)) (drop (4 * n + 2 * m) t)) ++ drop (2 * (length d / 2)) d
-      → o ≡ r (sized n m) t side1
+  pub r-is : (d o : List ℕ) → length d ≡ 2 * inner sizes
+      → o ≡ subtractTrits (length d / 2) (take (4 * key sizes + inner sizes - 4 * key sizes) (drop (4 * key sizes) t)) (take (4 * key sizes + 2 * inner sizes + 2 * inner sizes - (4 * key sizes + 2 * inner sizes)) (drop (4 * key sizes + 2 * inner sizes) t)) ++ drop (2 * (length d / 2)) d
+      → o ≡ r (schemeOf sizes) t side1
   unfolding r
   r-is d o l e =
-      let S = sized n m in
+      let S = schemeOf sizes in
+      let n = key sizes in
+      let m = inner sizes in
       let h : length d / 2 ≡ m = omega arith in
       let v = subtractTrits m (w̃ S t) (r0 S t) in
       e ∙ (λ i. subtractTrits (h i) ((cut (4 * n) (4 * n + m) m t refl ∙ tape-w̃ S t) i) ((cut (4 * n + 2 * m) (4 * n + 2 * m + 2 * m) (2 * m) t refl ∙ tape-r0 S t) i) ++ drop (2 * h i) d)
       ∙ ap (λ (x : List ℕ). v ++ x) (drop-of-length-le d {i = 2 * m} (omega arith)) ∙ append-nil v
 
-  pub r-long : length (r (sized n m) t side1) ≡ 2 * m
+  r-long : length (r (schemeOf sizes) t side1) ≡ 2 * inner sizes
   unfolding r
-  r-long = omega (arith, bytes-subtract m (w̃ (sized n m) t) (r0 (sized n m) t) .size)
+  r-long =
+      let m = inner sizes in
+      omega (arith, bytes-subtract m (w̃ (schemeOf sizes) t) (r0 (schemeOf sizes) t) .size)
 
   -- unit 0's are the tape's
-  pub first-z : take (4 * n + m + m - (4 * n + m)) (drop (4 * n + m) t) ≡ z (sized n m) noFiles t side0
+  first-z : take (inner sizes) (drop (4 * key sizes + inner sizes) t) ≡ z (schemeOf sizes) noFiles t side0
   unfolding z
-  first-z = cut (4 * n + m) (4 * n + m + m) m t refl ∙ tape-z0 (sized n m) t
+  first-z = tape-z0 (schemeOf sizes) t
 
-  pub first-r : take (4 * n + 2 * m + 2 * m - (4 * n + 2 * m)) (drop (4 * n + 2 * m) t) ≡ r (sized n m) t side0
+  first-r : take (2 * inner sizes) (drop (4 * key sizes + inner sizes + inner sizes) t) ≡ r (schemeOf sizes) t side0
   unfolding r
-  first-r = cut (4 * n + 2 * m) (4 * n + 2 * m + 2 * m) (2 * m) t refl ∙ tape-r0 (sized n m) t
+  first-r = let e : 4 * key sizes + inner sizes + inner sizes ≡ 4 * key sizes + 2 * inner sizes = omega arith in ap (λ (k : ℕ). take (2 * inner sizes) (drop k t)) e ∙ tape-r0 (schemeOf sizes) t
 
   -- a frame of its header and four fields
-  pub deal-fields : (session : ℕ) (i : Side) (d o h a b c v : List ℕ) → FieldsCopied (6 + n + n + m + 2 * m) (h ∷ a ∷ b ∷ c ∷ v ∷ []) d o
-      → h ≡ header dealKind (parametersOf i (sharedParameters session)) → a ≡ K̃ (sized n m) t i → b ≡ x̃ (sized n m) t i
-      → c ≡ z (sized n m) noFiles t i → v ≡ r (sized n m) t i
-      → o ≡ dealFrame (sized n m) (sharedParameters session) noFiles t i ++ drop (frameBytes (sized n m) dealKind) d
+  deal-fields : (session : ℕ) (i : Side) (d o h a b c v : List ℕ) → FieldsCopied (6 + key sizes + key sizes + inner sizes + 2 * inner sizes) (h ∷ a ∷ b ∷ c ∷ v ∷ []) d o
+      → h ≡ header dealKind (parametersOf i (sharedParameters session)) → a ≡ K̃ (schemeOf sizes) t i → b ≡ x̃ (schemeOf sizes) t i
+      → c ≡ z (schemeOf sizes) noFiles t i → v ≡ r (schemeOf sizes) t i
+      → o ≡ dealFrame (schemeOf sizes) (sharedParameters session) noFiles t i ++ drop (frameBytes (schemeOf sizes) dealKind) d
   unfolding dealFrame deal frame concat
   deal-fields session i d o h a b c v f eh ea eb ec ev =
-      let q : 6 + n + n + m + 2 * m ≡ frameBytes (sized n m) dealKind = omega arith in
+      let n = key sizes in
+      let m = inner sizes in
+      let q : 6 + n + n + m + 2 * m ≡ frameBytes (schemeOf sizes) dealKind = omega arith in
       fields-front f ∙ (λ j. concat (eh j ∷ ea j ∷ eb j ∷ ec j ∷ ev j ∷ []) ++ drop (q j) d)
 
+  -- k bytes of the tape
+  part-size : (a k : ℕ) → a + k ≤ length t → length (take k (drop a t)) ≡ k
+  part-size a k h = length-take-le k (drop a t) (rw length-drop (omega arith))
+
+  module _ (session : ℕ) (d h : List ℕ) (l : length t ≡ tapeBytes (schemeOf sizes)) (room : frameBytes (schemeOf sizes) dealKind ≤ length d) (i : Side) (is : h ≡ header dealKind (parametersOf i (sharedParameters session))) where
+    -- header, K̃i and x̃i in front
+    front-fields : (j k : ℕ) (o₀ o₁ o₂ : List ℕ) → j + key sizes ≤ length t → k + key sizes ≤ length t → o₀ ≡ pasted 0 h d → o₁ ≡ pasted 6 (take (key sizes) (drop j t)) o₀
+        → o₂ ≡ pasted (6 + key sizes) (take (key sizes) (drop k t)) o₁
+        → FieldsCopied (6 + key sizes + key sizes) (h ∷ take (key sizes) (drop j t) ∷ take (key sizes) (drop k t) ∷ []) d o₂
+    front-fields j k o₀ o₁ o₂ hj hk e₀ e₁ e₂ =
+        let n = key sizes in
+        let f₀ = fields-more (fields-none {d = d}) 6 h o₀ (ap length is ∙ header-long dealKind _) (omega arith) e₀ in
+        let f₁ = fields-more f₀ n (take n (drop j t)) o₁ (part-size j n hj) (omega arith) e₁ in
+        fields-more f₁ n (take n (drop k t)) o₂ (part-size k n hk) (omega arith) e₂
+
+  -- unit 0's frame, field by field
+  pub first-frame : (session : ℕ) (d h o₀ o₁ o₂ o₃ o₄ : List ℕ) → length t ≡ tapeBytes (schemeOf sizes) → frameBytes (schemeOf sizes) dealKind ≤ length d
+      → h ≡ header dealKind (parametersOf side0 (sharedParameters session)) → o₀ ≡ pasted 0 h d → o₁ ≡ pasted 6 (take (key sizes) (drop 0 t)) o₀
+      → o₂ ≡ pasted (6 + key sizes) (take (key sizes) (drop (2 * key sizes) t)) o₁
+      → o₃ ≡ pasted (6 + key sizes + key sizes) (take (inner sizes) (drop (4 * key sizes + inner sizes) t)) o₂
+      → o₄ ≡ pasted (6 + key sizes + key sizes + inner sizes) (take (2 * inner sizes) (drop (4 * key sizes + inner sizes + inner sizes) t)) o₃
+      → o₄ ≡ dealFrame (schemeOf sizes) (sharedParameters session) noFiles t side0 ++ drop (frameBytes (schemeOf sizes) dealKind) d
+  first-frame session d h o₀ o₁ o₂ o₃ o₄ l room is e₀ e₁ e₂ e₃ e₄ =
+      let n = key sizes in
+      let m = inner sizes in
+      let S = schemeOf sizes in
+      let f₂ = front-fields session d h l room side0 is 0 (2 * n) o₀ o₁ o₂ (omega arith) (omega arith) e₀ e₁ e₂ in
+      let f₃ = fields-more f₂ m (take m (drop (4 * n + m) t)) o₃ (part-size (4 * n + m) m (omega arith)) (omega arith) e₃ in
+      let f₄ = fields-more f₃ (2 * m) (take (2 * m) (drop (4 * n + m + m) t)) o₄ (part-size (4 * n + m + m) (2 * m) (omega arith)) (omega arith) e₄ in
+      deal-fields session side0 d o₄ h _ _ _ _ f₄ is (tape-K̃0 S t) (tape-x̃0 S t) first-z first-r
+
+  -- unit 1's, whose z1 and r1 are written where they stand
+  pub second-frame : (session : ℕ) (d h o₀ o₁ o₂ v w : List ℕ) → length t ≡ tapeBytes (schemeOf sizes) → frameBytes (schemeOf sizes) dealKind ≤ length d
+      → h ≡ header dealKind (parametersOf side1 (sharedParameters session)) → o₀ ≡ pasted 0 h d → o₁ ≡ pasted 6 (take (key sizes) (drop (key sizes) t)) o₀
+      → o₂ ≡ pasted (6 + key sizes) (take (key sizes) (drop (3 * key sizes) t)) o₁
+      → v ≡ z (schemeOf sizes) noFiles t side1 → w ≡ r (schemeOf sizes) t side1
+      → (let at : ℕ = 6 + key sizes + key sizes in let o₃ = take at o₂ ++ (v ++ drop (at + inner sizes - at) (drop at o₂)) in
+      take (at + inner sizes) o₃ ++ (w ++ drop (at + inner sizes + 2 * inner sizes - (at + inner sizes)) (drop (at + inner sizes) o₃)))
+      ≡ dealFrame (schemeOf sizes) (sharedParameters session) noFiles t side1 ++ drop (frameBytes (schemeOf sizes) dealKind) d
+  second-frame session d h o₀ o₁ o₂ v w l room is e₀ e₁ e₂ ev ew =
+      let n = key sizes in
+      let m = inner sizes in
+      let S = schemeOf sizes in
+      let at : ℕ = 6 + n + n in
+      let o₃ : List ℕ = take at o₂ ++ (v ++ drop (at + m - at) (drop at o₂)) in
+      let lv : length v ≡ m = ap length ev ∙ z-long in
+      let lw : length w ≡ 2 * m = ap length ew ∙ r-long in
+      let f₂ = front-fields session d h l room side1 is n (3 * n) o₀ o₁ o₂ (omega arith) (omega arith) e₀ e₁ e₂ in
+      let f₃ = fields-more f₂ m v o₃ lv (omega arith) (part-pasted at (at + m - at) o₂ v (omega arith)) in
+      let f₄ = fields-more f₃ (2 * m) w _ lw (omega arith) (part-pasted (at + m) (at + m + 2 * m - (at + m)) o₃ w (omega arith)) in
+      deal-fields session side1 d _ h _ _ _ _ f₄ is (tape-K̃1 S t) (tape-x̃1 S t) ev ew
+
   -- the second frame behind the first, whose length the code adds up in its own way
-  pub deal-behind : (session x : ℕ) → x ≡ frameBytes (sized n m) dealKind → (d o p : List ℕ) → length t ≡ tapeBytes (sized n m) → dealtBytes (sized n m) ≤ length d
-      → o ≡ dealFrame (sized n m) (sharedParameters session) noFiles t side0 ++ drop (frameBytes (sized n m) dealKind) d
-      → p ≡ dealFrame (sized n m) (sharedParameters session) noFiles t side1 ++ drop (frameBytes (sized n m) dealKind) (take (length o - x) (drop x o))
-      → take x o ++ (p ++ drop (length o - x) (drop x o)) ≡ output 0 (dealt (sized n m) (sharedParameters session) noFiles t) d
+  pub deal-behind : (session x : ℕ) → x ≡ frameBytes (schemeOf sizes) dealKind → (d o p : List ℕ) → length t ≡ tapeBytes (schemeOf sizes) → dealtBytes (schemeOf sizes) ≤ length d
+      → o ≡ dealFrame (schemeOf sizes) (sharedParameters session) noFiles t side0 ++ drop (frameBytes (schemeOf sizes) dealKind) d
+      → p ≡ dealFrame (schemeOf sizes) (sharedParameters session) noFiles t side1 ++ drop (frameBytes (schemeOf sizes) dealKind) (take (length o - x) (drop x o))
+      → take x o ++ (p ++ drop (length o - x) (drop x o)) ≡ output 0 (dealt (schemeOf sizes) (sharedParameters session) noFiles t) d
   deal-behind session x e d o p l h eo ep =
-      let S = sized n m in
+      let S = schemeOf sizes in
+      let n = key sizes in
+      let m = inner sizes in
       (λ i. take (e i) o ++ (p ++ drop (length o - e i) (drop (e i) o)))
       ∙ deal-written S (sharedParameters session) noFiles t d o p l h eo
       (ep ∙ (λ i. dealFrame S (sharedParameters session) noFiles t side1 ++ drop (frameBytes S dealKind) (take (length o - e i) (drop (e i) o))))
 
   -- the test of r0
-  pub fit-part : {b : Bool} → length t ≡ tapeBytes (sized n m)
-      → (let v = take (4 * n + 2 * m + 2 * m - (4 * n + 2 * m)) (drop (4 * n + 2 * m) t) in b ≡ fitTrits (length v / 2) (min (8 * m) (8 * (length v / 2))) v)
-      → fitTrits m (8 * m) (r0 (sized n m) t) ≡ b
+  pub fit-part : {b : Bool} → length t ≡ tapeBytes (schemeOf sizes)
+      → (let v = take (4 * key sizes + 2 * inner sizes + 2 * inner sizes - (4 * key sizes + 2 * inner sizes)) (drop (4 * key sizes + 2 * inner sizes) t) in b ≡ fitTrits (length v / 2) (min (8 * inner sizes) (8 * (length v / 2))) v)
+      → fitTrits (inner sizes) (8 * inner sizes) (r0 (schemeOf sizes) t) ≡ b
   fit-part l e =
+      let n = key sizes in
+      let m = inner sizes in
       let w = cut (4 * n + 2 * m) (4 * n + 2 * m + 2 * m) (2 * m) t refl in
-      sym (e ∙ (λ i. fitTrits (length (w i) / 2) (min (8 * m) (8 * (length (w i) / 2))) (w i)) ∙ fit-r0 (sized n m) t l)
+      sym (e ∙ (λ i. fitTrits (length (w i) / 2) (min (8 * m) (8 * (length (w i) / 2))) (w i)) ∙ fit-r0 (schemeOf sizes) t l)

@@ -1,4 +1,4 @@
-// Both deal frames of a tape, for keys and inner strings of any number of bytes. No branch depends on a tape's bytes.
+// Both deal frames of a tape, for any sizes. No branch depends on a tape's bytes.
 ghost use mathlib.Core.Path.{_≡_};
 ghost use mathlib.Core.List.{_++_};
 ghost use Prim.Native.Nat.{_*_, _≤_};
@@ -8,26 +8,27 @@ ghost use Rattle.pair_model.specs.Scheme.{noFiles, side0, side1};
 ghost use Rattle.pair_model.specs.Tape.{tapeBytes, z, r};
 ghost use Rattle.pair_model.specs.Frame.{sharedParameters, dealKind, frameBytes};
 ghost use Rattle.pair_model.specs.Dealer.{dealFrame, dealt, dealtBytes};
-ghost use Rattle.pair_sampler.specs.Sized.{sized};
+ghost use Rattle.pair_frames.specs.Schemes.{schemeOf, Fits};
 use linear::bits::add_bits;
 use linear::bits::add_bits_to;
 use linear::products::circulant_product;
 use linear::trits::subtract_trits;
 use linear_words::copies::put;
+use pair_frames::copies::put_part;
 use pair_frames::frame::DEAL;
 use pair_frames::frame::header_bytes;
 use pair_frames::parameters::Parameters;
 use pair_frames::sizes::HEADER_BYTES;
-use pair_frames::sizes::KEY_BYTES;
-
-// The bytes of the longest key.
-const KEY_ROOM: usize = KEY_BYTES;
+use pair_frames::sizes::KEY_ROOM;
+use pair_frames::sizes::Sizes;
 
 // z1 = z0 + K̃ × x̃ + w̃ modulo 2.
-fn second_z(key_bytes: usize, inner_bytes: usize, tape: &[u8], out: &mut [u8])
-    requires { ⌜ («key_bytes» ≤ 32) × (length (now tape) ≡ tapeBytes (sized «key_bytes» «inner_bytes»)) × (length (now out) ≡ «inner_bytes») ⌝ }
-    ensures { λ _. ⌜ now (out .exit) ≡ z (sized «key_bytes» «inner_bytes») noFiles (now (tape .entry)) side1 ⌝ }
+fn second_z(sizes: Sizes, tape: &[u8], out: &mut [u8])
+    requires { ⌜ Fits sizes × (length (now tape) ≡ tapeBytes (schemeOf sizes)) × (length (now out) ≡ sizes .«inner_bytes») ⌝ }
+    ensures { λ _. ⌜ now (out .exit) ≡ z (schemeOf sizes) noFiles (now (tape .entry)) side1 ⌝ }
 {
+    let key_bytes = sizes.key_bytes;
+    let inner_bytes = sizes.inner_bytes;
     let labels = 2 * key_bytes;
     let second_label = 3 * key_bytes;
     let inner_mask = 4 * key_bytes;
@@ -51,10 +52,12 @@ fn second_z(key_bytes: usize, inner_bytes: usize, tape: &[u8], out: &mut [u8])
 }
 
 // r1 = w̃ − r0 modulo 3.
-fn second_r(key_bytes: usize, inner_bytes: usize, tape: &[u8], out: &mut [u8])
-    requires { ⌜ (length (now tape) ≡ tapeBytes (sized «key_bytes» «inner_bytes»)) × (length (now out) ≡ 2 * «inner_bytes») ⌝ }
-    ensures { λ _. ⌜ now (out .exit) ≡ r (sized «key_bytes» «inner_bytes») (now (tape .entry)) side1 ⌝ }
+fn second_r(sizes: Sizes, tape: &[u8], out: &mut [u8])
+    requires { ⌜ (length (now tape) ≡ tapeBytes (schemeOf sizes)) × (length (now out) ≡ 2 * sizes .«inner_bytes») ⌝ }
+    ensures { λ _. ⌜ now (out .exit) ≡ r (schemeOf sizes) (now (tape .entry)) side1 ⌝ }
 {
+    let key_bytes = sizes.key_bytes;
+    let inner_bytes = sizes.inner_bytes;
     let inner_mask = 4 * key_bytes;
     let first_r = inner_mask + 2 * inner_bytes;
     subtract_trits(
@@ -65,21 +68,22 @@ fn second_r(key_bytes: usize, inner_bytes: usize, tape: &[u8], out: &mut [u8])
 }
 
 // Writes unit 0's deal frame: K̃0, x̃0, z0, r0.
-fn write_first(key_bytes: usize, inner_bytes: usize, session: u32, tape: &[u8], out: &mut [u8])
+fn write_first(sizes: Sizes, session: u32, tape: &[u8], out: &mut [u8])
     requires { ⌜
-        (length (now tape) ≡ tapeBytes (sized «key_bytes» «inner_bytes»)) × (frameBytes (sized «key_bytes» «inner_bytes») dealKind ≤ length (now out))
+        (length (now tape) ≡ tapeBytes (schemeOf sizes)) × (frameBytes (schemeOf sizes) dealKind ≤ length (now out))
         ⌝ }
     ensures { λ _. ⌜
         now (out .exit) ≡
-        dealFrame (sized «key_bytes» «inner_bytes») (sharedParameters session) noFiles (now (tape .entry)) side0
-        ++ drop (frameBytes (sized «key_bytes» «inner_bytes») dealKind) (now (out .entry))
+        dealFrame (schemeOf sizes) (sharedParameters session) noFiles (now (tape .entry)) side0
+        ++ drop (frameBytes (schemeOf sizes) dealKind) (now (out .entry))
         ⌝ }
 {
-    let first_z = 4 * key_bytes + inner_bytes;
-    let first_r = 4 * key_bytes + 2 * inner_bytes;
+    let key_bytes = sizes.key_bytes;
+    let inner_bytes = sizes.inner_bytes;
     let label_at = HEADER_BYTES + key_bytes;
     let z_at = label_at + key_bytes;
     let r_at = z_at + inner_bytes;
+    let first_z = 4 * key_bytes + inner_bytes;
     let head = header_bytes(
         DEAL,
         Parameters {
@@ -88,24 +92,26 @@ fn write_first(key_bytes: usize, inner_bytes: usize, session: u32, tape: &[u8], 
         },
     );
     put(&head, out, 0);
-    put(&tape[..key_bytes], out, HEADER_BYTES);
-    put(&tape[2 * key_bytes..3 * key_bytes], out, label_at);
-    put(&tape[first_z..first_z + inner_bytes], out, z_at);
-    put(&tape[first_r..first_r + 2 * inner_bytes], out, r_at);
+    put_part(tape, 0, key_bytes, out, HEADER_BYTES);
+    put_part(tape, 2 * key_bytes, key_bytes, out, label_at);
+    put_part(tape, first_z, inner_bytes, out, z_at);
+    put_part(tape, first_z + inner_bytes, 2 * inner_bytes, out, r_at);
 }
 
 // Writes unit 1's deal frame: K̃1, x̃1, z1, r1.
-fn write_second(key_bytes: usize, inner_bytes: usize, session: u32, tape: &[u8], out: &mut [u8])
+fn write_second(sizes: Sizes, session: u32, tape: &[u8], out: &mut [u8])
     requires { ⌜
-        («key_bytes» ≤ 32) × (length (now tape) ≡ tapeBytes (sized «key_bytes» «inner_bytes»))
-        × (frameBytes (sized «key_bytes» «inner_bytes») dealKind ≤ length (now out))
+        Fits sizes × (length (now tape) ≡ tapeBytes (schemeOf sizes))
+        × (frameBytes (schemeOf sizes) dealKind ≤ length (now out))
         ⌝ }
     ensures { λ _. ⌜
         now (out .exit) ≡
-        dealFrame (sized «key_bytes» «inner_bytes») (sharedParameters session) noFiles (now (tape .entry)) side1
-        ++ drop (frameBytes (sized «key_bytes» «inner_bytes») dealKind) (now (out .entry))
+        dealFrame (schemeOf sizes) (sharedParameters session) noFiles (now (tape .entry)) side1
+        ++ drop (frameBytes (schemeOf sizes) dealKind) (now (out .entry))
         ⌝ }
 {
+    let key_bytes = sizes.key_bytes;
+    let inner_bytes = sizes.inner_bytes;
     let label_at = HEADER_BYTES + key_bytes;
     let z_at = label_at + key_bytes;
     let r_at = z_at + inner_bytes;
@@ -118,22 +124,24 @@ fn write_second(key_bytes: usize, inner_bytes: usize, session: u32, tape: &[u8],
         },
     );
     put(&head, out, 0);
-    put(&tape[key_bytes..2 * key_bytes], out, HEADER_BYTES);
-    put(&tape[3 * key_bytes..4 * key_bytes], out, label_at);
-    second_z(key_bytes, inner_bytes, tape, &mut out[z_at..r_at]);
-    second_r(key_bytes, inner_bytes, tape, &mut out[r_at..end]);
+    put_part(tape, key_bytes, key_bytes, out, HEADER_BYTES);
+    put_part(tape, 3 * key_bytes, key_bytes, out, label_at);
+    second_z(sizes, tape, &mut out[z_at..r_at]);
+    second_r(sizes, tape, &mut out[r_at..end]);
 }
 
 // Writes both deal frames, unit 0's first.
-pub fn write_deal(key_bytes: usize, inner_bytes: usize, session: u32, tape: &[u8], out: &mut [u8])
+pub fn write_deal(sizes: Sizes, session: u32, tape: &[u8], out: &mut [u8])
     requires { ⌜
-        («key_bytes» ≤ 32) × (length (now tape) ≡ tapeBytes (sized «key_bytes» «inner_bytes»)) × (dealtBytes (sized «key_bytes» «inner_bytes») ≤ length (now out))
+        Fits sizes × (length (now tape) ≡ tapeBytes (schemeOf sizes)) × (dealtBytes (schemeOf sizes) ≤ length (now out))
         ⌝ }
     ensures { λ _. ⌜
-        now (out .exit) ≡ output 0 (dealt (sized «key_bytes» «inner_bytes») (sharedParameters session) noFiles (now (tape .entry))) (now (out .entry))
+        now (out .exit) ≡ output 0 (dealt (schemeOf sizes) (sharedParameters session) noFiles (now (tape .entry))) (now (out .entry))
         ⌝ }
 {
+    let key_bytes = sizes.key_bytes;
+    let inner_bytes = sizes.inner_bytes;
     let second = HEADER_BYTES + 2 * key_bytes + 3 * inner_bytes;
-    write_first(key_bytes, inner_bytes, session, tape, out);
-    write_second(key_bytes, inner_bytes, session, tape, &mut out[second..]);
+    write_first(sizes, session, tape, out);
+    write_second(sizes, session, tape, &mut out[second..]);
 }

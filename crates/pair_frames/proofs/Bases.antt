@@ -4,10 +4,11 @@ use Prim.Native.Nat.{ℕ}
 use lib.Dec.{lit≤}
 use Rattle.linear_model.specs.Products.{circulantProduct, Bilinear}
 use Rattle.linear_model.proofs.Linearity.{circulant-bilinear}
+use Rattle.matrix_model.proofs.Layouts.{matrixB-fits}
 use Rattle.pair_model.specs.Scheme.{Linear}
 use Rattle.pair_model.specs.Base.{base}
 use Rattle.pair_frames.specs.declared.sizes.Sizes.{Sizes}
-use Rattle.pair_frames.specs.Schemes.{schemeOf, baseSizes, Fits, FitsFile}
+use Rattle.pair_frames.specs.Schemes.{schemeOf, baseSizes, Fits}
 
 pub scheme-linear : (z : Sizes) → Fits z → Linear (schemeOf z)
 scheme-linear z h =
@@ -17,10 +18,7 @@ scheme-linear z h =
     }
 
 pub base-fits : Fits baseSizes
-base-fits = record { key = lit≤ tt; inner = lit≤ tt; digits = lit≤ tt; circulant = refl }
-
-pub base-fits-file : FitsFile baseSizes
-base-fits-file = record { inner = refl; digits = refl }
+base-fits = record { key = lit≤ tt; inner = lit≤ tt; circulant = refl; share = lit≤ tt; file = matrixB-fits }
 
 pub base-is : schemeOf baseSizes ≡ base
 base-is = refl

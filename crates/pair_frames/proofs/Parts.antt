@@ -25,11 +25,15 @@ module _ (layout : List ℕ) (i at k j : ℕ) (s : List ℕ) (h : i < length lay
   pub field-part : take (j - k) (drop k s) ≡ field layout i (drop at s)
   field-part = let m : j - k ≡ getD layout i 0 = omega arith in (λ x. take (m x) (drop (start x) s)) ∙ field-at layout i at s h
 
+module _ (layout : List ℕ) (i at k : ℕ) (s : List ℕ) (h : i < length layout) (start : k ≡ at + layoutBytes (take i layout)) where
+  -- field i of a string from `at` on, by its place
+  pub field-is : take (getD layout i 0) (drop k s) ≡ field layout i (drop at s)
+  field-is = ap (λ (x : ℕ). take (getD layout i 0) (drop x s)) start ∙ field-at layout i at s h
+
   -- copied to the front of a room
-  pub field-front : (d o : List ℕ) → j ≤ length s → o ≡ pasted 0 (take (j - k) (drop k s)) d → take (getD layout i 0) o ≡ field layout i (drop at s)
-  field-front d o l e =
-      let m : j - k ≡ getD layout i 0 = omega arith in
-      front-of-room (take (j - k) (drop k s)) d o (getD layout i 0) (part-long s k j (omega arith) l ∙ m) e ∙ field-part
+  pub field-copied : (d o : List ℕ) → length (take (getD layout i 0) (drop k s)) ≡ getD layout i 0
+      → o ≡ pasted 0 (take (getD layout i 0) (drop k s)) d → take (getD layout i 0) o ≡ field layout i (drop at s)
+  field-copied d o l e = front-of-room (take (getD layout i 0) (drop k s)) d o (getD layout i 0) l e ∙ field-is
 
 -- fields copied one after the other, and then the n bytes behind them written in place
 module _ {d : List ℕ} {k : ℕ} {fields : List (List ℕ)} {o : List ℕ} (h : FieldsCopied k fields d o) (n : ℕ) (room : k + n ≤ length d) where

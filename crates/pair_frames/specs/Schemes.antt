@@ -1,13 +1,26 @@
 -- What the code's sizes stand for, and which of them its arrays have room for.
-use Prim.Native.Nat.{ℕ, _≤_}
+use Prim.Native.Nat.{ℕ, _*_, _≤_}
 use mathlib.Core.Path.{_≡_}
-use Rattle.linear_model.specs.Products.{circulantProduct}
-use Rattle.matrix_model.specs.File.{fileBytes, faults, rows}
+use Rattle.linear_model.specs.Products.{planeBytes, circulantProduct}
+use Rattle.matrix_model.specs.Block.{Layout}
+use Rattle.matrix_model.specs.File.{fileSize, faultsOf, rowsOf}
+use Rattle.matrix_model.specs.File.{Fits as FitsBlocks}
 use Rattle.pair_model.specs.Scheme.{readsNothing, Scheme}
 use Rattle.pair_model.specs.Base.{matrixReading}
 use Rattle.pair_frames.specs.declared.sizes.Sizes.{Sizes}
 
--- the circulant scheme of these sizes, with document 01's matrix file
+-- the layout of the matrix file: a row is as long as an inner trit vector, and each digit has one
+abbrev pub fileLayout : Sizes → Layout
+fileLayout z =
+    record {
+      letter = 0x42;
+      set = z .set;
+      rowBytes = 2 * z .«inner_bytes»;
+      blockRows = z .«block_rows»;
+      rowCount = z .digits;
+    }
+
+-- the circulant scheme of these sizes, with a matrix file of this layout
 abbrev pub schemeOf : Sizes → Scheme
 schemeOf z =
     record {
@@ -16,13 +29,13 @@ schemeOf z =
       digits = z .digits;
       productReading = readsNothing;
       product = λ content key label. circulantProduct (z .«inner_bytes») key label;
-      rowsReading = matrixReading fileBytes faults;
-      rows = rows;
+      rowsReading = matrixReading (fileSize (fileLayout z)) (faultsOf (fileLayout z));
+      rows = rowsOf (fileLayout z);
     }
 
 -- the sizes of document 01, which stand for `base`
 abbrev pub baseSizes : Sizes
-baseSizes = record { «key_bytes» = 32; «inner_bytes» = 32; digits = 81 }
+baseSizes = record { «key_bytes» = 32; «inner_bytes» = 32; digits = 81; set = 1; «block_rows» = 7 }
 
 -- the most bytes of a key, and of an inner bit string, that a unit's state has room for
 abbrev pub keyRoom : ℕ
@@ -31,14 +44,10 @@ keyRoom = 32
 abbrev pub innerRoom : ℕ
 innerRoom = 32
 
--- sizes that fit these rooms, for a product that is circulant
+-- sizes that fit these rooms, for a product that is circulant; a share frame is no longer than an open frame, for which a step has room
 pub record Fits (z : Sizes) : Type 0 where
   pub key : z .«key_bytes» ≤ keyRoom
   pub inner : z .«inner_bytes» ≤ innerRoom
-  pub digits : z .digits ≤ 65025
   pub circulant : z .«inner_bytes» ≡ z .«key_bytes»
-
--- sizes of which document 01's matrix file has rows
-pub record FitsFile (z : Sizes) : Type 0 where
-  pub inner : z .«inner_bytes» ≡ 32
-  pub digits : z .digits ≡ 81
+  pub share : planeBytes (z .digits) ≤ z .«key_bytes»
+  pub file : FitsBlocks (fileLayout z)

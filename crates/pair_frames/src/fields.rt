@@ -9,6 +9,7 @@ ghost use Rattle.pair_model.specs.Tape.{dealLayout};
 ghost use Rattle.pair_model.specs.Frame.{dealKind, openKind, frame, frameBytes, bodyOf};
 ghost use Rattle.pair_frames.specs.Headers.{parametersIn};
 ghost use Rattle.pair_frames.specs.Schemes.{schemeOf, Fits};
+use crate::copies::put_part;
 use crate::frame::OPEN;
 use crate::frame::header_bytes;
 use crate::parameters::Parameters;
@@ -36,17 +37,16 @@ pub fn read_deal(sizes: Sizes, s: &[u8], at: usize) -> Deal
     ensures z { λ d. ⌜ take (sizes .«inner_bytes») (d .z) ≡ field (dealLayout (schemeOf sizes)) 2 (drop at (now (s .entry))) ⌝ }
     ensures r { λ d. ⌜ take (2 * sizes .«inner_bytes») (d .r) ≡ field (dealLayout (schemeOf sizes)) 3 (drop at (now (s .entry))) ⌝ }
 {
-    let label_at = at + sizes.key_bytes;
-    let z_at = label_at + sizes.key_bytes;
-    let r_at = z_at + sizes.inner_bytes;
+    let n = sizes.key_bytes;
+    let m = sizes.inner_bytes;
     let mut key_mask = [0u8; KEY_ROOM];
     let mut label_mask = [0u8; KEY_ROOM];
     let mut z = [0u8; INNER_ROOM];
     let mut r = [0u8; TRITS_ROOM];
-    put(&s[at..label_at], &mut key_mask, 0);
-    put(&s[label_at..z_at], &mut label_mask, 0);
-    put(&s[z_at..r_at], &mut z, 0);
-    put(&s[r_at..r_at + 2 * sizes.inner_bytes], &mut r, 0);
+    put_part(s, at, n, &mut key_mask, 0);
+    put_part(s, at + n, n, &mut label_mask, 0);
+    put_part(s, at + 2 * n, m, &mut z, 0);
+    put_part(s, at + 2 * n + m, 2 * m, &mut r, 0);
     Deal {
         key_mask: key_mask,
         label_mask: label_mask,

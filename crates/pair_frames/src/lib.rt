@@ -1,4 +1,5 @@
 // Frames: their lengths, their headers and the fields of their bodies.
+pub mod copies;
 pub mod fields;
 pub mod frame;
 pub mod header;

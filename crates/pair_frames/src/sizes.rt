@@ -1,13 +1,18 @@
 // All lengths and places, in this one place: the sizes of document 01, and what follows from them. The matrix file's are those of its layer.
+use matrix_model::sizes::BLOCK_ROWS;
 pub use matrix_model::sizes::CODE_BYTES;
 pub use matrix_model::sizes::FILE_BYTES;
 use matrix_model::sizes::ROW_COUNT;
+use matrix_model::sizes::SET;
 
-// The sizes that a scheme chooses: the bytes of a key, those of a bit string as long as the inner vector, and the digits of a code.
+// The sizes that a scheme chooses: the bytes of a key, those of a bit string as long as the inner vector, and the digits of a code; and what
+// its matrix file has besides: the set in byte 3 of its blocks, and the rows of a full block.
 pub struct Sizes {
     pub key_bytes: usize,
     pub inner_bytes: usize,
     pub digits: usize,
+    pub set: u8,
+    pub block_rows: usize,
 }
 
 // The sizes of document 01.
@@ -15,6 +20,8 @@ pub const BASE: Sizes = Sizes {
     key_bytes: KEY_BYTES,
     inner_bytes: INNER_BYTES,
     digits: DIGITS,
+    set: SET,
+    block_rows: BLOCK_ROWS,
 };
 
 // The most bytes of a key and of an inner bit string that a unit's state has room for.
@@ -58,24 +65,8 @@ pub const TAPE_R: usize = 4 * KEY_BYTES + 2 * INNER_BYTES;
 
 pub const TAPE_BYTES: usize = TAPE_R + TRITS_BYTES;
 
-// A state in a slice: a header with the stage for its kind, the halves, the deal and the own mask, each by its place.
-pub const STATE_KEY: usize = HEADER_BYTES;
-
-pub const STATE_LABEL: usize = STATE_KEY + KEY_BYTES;
-
-pub const STATE_DEAL: usize = STATE_LABEL + KEY_BYTES;
-
-pub const STATE_KEY_MASK: usize = STATE_DEAL;
-
-pub const STATE_LABEL_MASK: usize = STATE_KEY_MASK + KEY_BYTES;
-
-pub const STATE_Z: usize = STATE_LABEL_MASK + KEY_BYTES;
-
-pub const STATE_R: usize = STATE_Z + INNER_BYTES;
-
-pub const STATE_OWN_MASK: usize = STATE_R + TRITS_BYTES;
-
-pub const STATE_BYTES: usize = STATE_OWN_MASK + INNER_BYTES;
+// A state in a slice: a header with the stage for its kind, the halves, the deal and the own mask.
+pub const STATE_BYTES: usize = HEADER_BYTES + 4 * KEY_BYTES + 2 * INNER_BYTES + TRITS_BYTES;
 
 // The program's input: two key halves, two label halves, tape, matrix file, each by its place.
 pub const INPUT_KEY_0: usize = 0;

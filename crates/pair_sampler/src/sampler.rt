@@ -1,8 +1,8 @@
 // The sampler: a tape from source bytes.
 ghost use mathlib.Core.Path.{_≡_};
-ghost use Prim.Native.Nat.{_+_, _*_, _/_, _^_, _<_, _≤_};
+ghost use Prim.Native.Nat.{_+_, _*_, _/_, _^_, _<_};
 ghost use lib.ListN.{length};
-ghost use Rattle.pair_model.specs.Scheme.{Scheme};
+ghost use Rattle.pair_frames.specs.Schemes.{schemeOf, Fits};
 ghost use Rattle.pair_model.specs.Base.{base};
 ghost use Rattle.pair_model.specs.Sampler.{sampled, used, sampleNumber};
 ghost use Rattle.numbers.specs.Number.{output, reported};
@@ -12,12 +12,12 @@ use linear_words::copies::put;
 use numbers::table::DONE;
 use numbers::table::SHORT_SOURCE;
 use numbers::table::WRONG_LENGTH;
-use pair_frames::sizes::INNER_BYTES;
-use pair_frames::sizes::INNER_TRITS;
-use pair_frames::sizes::KEY_BYTES;
+use pair_frames::sizes::BASE;
+use pair_frames::sizes::INNER_ROOM;
+use pair_frames::sizes::Sizes;
 
 // The trits of the longest inner vector.
-const MOST_TRITS: usize = INNER_TRITS;
+const MOST_TRITS: usize = 8 * INNER_ROOM;
 
 // A number, and the source bytes used.
 pub struct Sampled {
@@ -43,13 +43,15 @@ fn refused(number: u32) -> Sampled
     }
 }
 
-// A tape for keys and inner vectors of so many bytes: what stands before r0 is copied, and the trits of r0 are drawn from the bytes after.
-pub fn sample_sized(key_bytes: usize, inner_bytes: usize, source: &[u8], out: &mut [u8]) -> Sampled
-    requires { ⌜ («key_bytes» ≤ 64) × («inner_bytes» ≤ 32) ⌝ }
-    ensures result { λ r. ⌜ ((S : Scheme) → S .keyBytes ≡ «key_bytes» → S .innerBytes ≡ «inner_bytes» → r .result ≡ sampleNumber S (now (source .entry)) (length (now (out .entry)))) ⌝ }
-    ensures count { λ r. ⌜ ((S : Scheme) → S .keyBytes ≡ «key_bytes» → S .innerBytes ≡ «inner_bytes» → r .used ≡ reported (r .result) (used S (now (source .entry)))) ⌝ }
-    ensures output { λ r. ⌜ ((S : Scheme) → S .keyBytes ≡ «key_bytes» → S .innerBytes ≡ «inner_bytes» → now (out .exit) ≡ output (r .result) (sampled S (now (source .entry))) (now (out .entry))) ⌝ }
+// A tape of any sizes: what stands before r0 is copied, and the trits of r0 are drawn from the bytes after.
+pub fn sample_sized(sizes: Sizes, source: &[u8], out: &mut [u8]) -> Sampled
+    requires { ⌜ Fits sizes ⌝ }
+    ensures result { λ r. ⌜ r .result ≡ sampleNumber (schemeOf sizes) (now (source .entry)) (length (now (out .entry))) ⌝ }
+    ensures count { λ r. ⌜ r .used ≡ reported (r .result) (used (schemeOf sizes) (now (source .entry))) ⌝ }
+    ensures output { λ r. ⌜ now (out .exit) ≡ output (r .result) (sampled (schemeOf sizes) (now (source .entry))) (now (out .entry)) ⌝ }
 {
+    let key_bytes = sizes.key_bytes;
+    let inner_bytes = sizes.inner_bytes;
     let copied = 4 * key_bytes + 2 * inner_bytes;
     let wanted = 8 * inner_bytes;
     let tape = copied + 2 * inner_bytes;
@@ -78,5 +80,5 @@ pub fn sample(source: &[u8], out: &mut [u8]) -> Sampled
     ensures count { λ r. ⌜ r .used ≡ reported (r .result) (used base (now (source .entry))) ⌝ }
     ensures output { λ r. ⌜ now (out .exit) ≡ output (r .result) (sampled base (now (source .entry))) (now (out .entry)) ⌝ }
 {
-    sample_sized(KEY_BYTES, INNER_BYTES, source, out)
+    sample_sized(BASE, source, out)
 }

@@ -1,17 +1,15 @@
--- The arrays of a unit's state: their lengths, what is read from the front of each, and the one law that joins struct and state.
-use mathlib.Core.Path.{_≡_, refl, sym, ap, _∙_}
-use mathlib.Core.List.{List, [], _∷_, _++_, append-nil}
-use Prim.Native.Nat.{ℕ, zero, suc, _*_, _/_, _≤_}
-use native.Mathlib.Nat.{le-of-suc-le-suc}
+-- The arrays of a unit's state: their lengths, and the one law that joins struct and state.
+use mathlib.Core.Path.{_≡_, ap, _∙_}
+use mathlib.Core.List.{List, _++_, append-nil}
+use Prim.Native.Nat.{ℕ, _*_}
 use native.Mathlib.Omega.{arith}
 use borrow.Author.Needs.{length-unmapped}
 use denote.Laws.{Is}
 use denote.Struct.Declared.{row}
 use mir.Val.{Val}
-use lib.ListN.{length, take, drop, length-append, drop-of-length-le}
-use lib.Seq.{take-at, take-all, length-take-le}
+use lib.ListN.{length, take, drop, drop-of-length-le}
+use lib.Seq.{take-all}
 use Rattle.linear_model.specs.Bits.{zeros}
-use Rattle.linear_model.specs.Trits.{innerShare}
 use Rattle.linear_model.proofs.Strings.{length-zeros}
 use Rattle.pair_frames.specs.Schemes.{keyRoom, innerRoom}
 use Rattle.pair_units.specs.declared.state.UnitState.{UnitState}
@@ -42,12 +40,6 @@ full u vs p =
       ownMask = length-unmapped ℕ (u .«own_mask») innerRoom (fields .1 .1 .1 .1 .1 .1 .0 .1 .0 .1);
     }
 
--- the front of a room of zeros
-pub zeros-front : (n room : ℕ) → n ≤ room → take n (zeros room) ≡ zeros n
-zeros-front zero room h = refl
-zeros-front (suc n) zero h = absurd (omega arith)
-zeros-front (suc n) (suc room) h = ap (λ (s : List ℕ). 0 ∷ s) (zeros-front n room (le-of-suc-le-suc h))
-
 -- a string that fills its room is read and put back
 room-full : (room : ℕ) (s : List ℕ) → length s ≡ room → inRoom room (take room s) ≡ s
 room-full room s e =
@@ -68,37 +60,3 @@ unit-back u f =
       r = room-full (2 * innerRoom) (u .r) (f .r) i;
       «own_mask» = room-full innerRoom (u .«own_mask») (f .ownMask) i;
     }
-
--- the front of a room that was lent, and came back as s
-module _ (n : ℕ) (room s : List ℕ) (h : n ≤ length room) (kept : length s ≡ length (take n room)) where
-  front-long : length s ≡ n
-  front-long = kept ∙ length-take-le n room h
-
-  pub lent-fits : n ≤ length (s ++ drop n room)
-  lent-fits = rw length-append (omega (arith, front-long))
-
-  pub lent-front : take n (s ++ drop n room) ≡ s
-  lent-front = take-at s (drop n room) n front-long
-
-  pub lent-long : length (take n (s ++ drop n room)) ≡ n
-  lent-long = ap length lent-front ∙ front-long
-
--- the front of an array of a room's length
-pub prefix : {n room : ℕ} (s : List ℕ) → length s ≡ room → n ≤ room → n ≤ length s
-prefix s e h = omega arith
-
-pub prefix-long : (n : ℕ) {room : ℕ} (s : List ℕ) → length s ≡ room → n ≤ room → n ≡ length (take n s)
-prefix-long n s e h = sym (length-take-le n s (omega arith))
-
--- both planes of an inner share, written to a room that they fill
-pub lent-planes : (m side : ℕ) (w r s : List ℕ) → m ≡ 32
-    → s ≡ innerShare (length (take (2 * m) (zeros 64)) / 2) side w r ++ drop (2 * (length (take (2 * m) (zeros 64)) / 2)) (take (2 * m) (zeros 64))
-    → s ++ drop (2 * m) (zeros 64) ≡ innerShare m side w r
-lent-planes m side w r s e p =
-    let l : length (take (2 * m) (zeros 64)) ≡ 2 * m = length-take-le (2 * m) (zeros 64) (omega arith) in
-    let h : length (take (2 * m) (zeros 64)) / 2 ≡ m = omega arith in
-    let none : drop (2 * m) (take (2 * m) (zeros 64)) ≡ [] = drop-of-length-le (take (2 * m) (zeros 64)) {i = 2 * m} (omega arith) in
-    let rest : drop (2 * m) (zeros 64) ≡ [] = drop-of-length-le (zeros 64) {i = 2 * m} (omega arith) in
-    let is : s ≡ innerShare m side w r =
-    p ∙ (λ i. innerShare (h i) side w r ++ drop (2 * h i) (take (2 * m) (zeros 64))) ∙ ap (λ (t : List ℕ). innerShare m side w r ++ t) none ∙ append-nil (innerShare m side w r) in
-    (λ i. is i ++ rest i) ∙ append-nil (innerShare m side w r)

@@ -16,11 +16,11 @@ ghost use Rattle.pair_model.specs.Calls.{StatesFit, CallsAreRuns};
 use numbers::table::DONE;
 use numbers::table::WRONG_LENGTH;
 use pair_conditions::conditions::step_number;
+use pair_encodings::encodings::encode;
 use pair_frames::frame::parameters_of;
 use pair_frames::sizes::BASE;
 use pair_frames::sizes::STATE_BYTES;
 use pair_states::slices::advance_slice;
-use pair_states::slices::encode;
 use pair_units::begin::begin_unit;
 
 // Begins a unit in a slice. A refused beginning writes the idle state, since an old state would go on accepting frames; only a slice of
@@ -54,7 +54,7 @@ pub extern "C" fn pair_begin(
     }
     let b = begin_unit(BASE, side, session, key, label);
     let next = b.next;
-    encode(next, state);
+    encode(BASE, next, state);
     b.result
 }
 
@@ -98,6 +98,6 @@ pub extern "C" fn pair_step(
     if number != DONE {
         return number;
     }
-    *count = advance_slice(state, f, file, out) as u64;
+    *count = advance_slice(BASE, state, f, file, out) as u64;
     DONE
 }

@@ -2,7 +2,7 @@
 use mathlib.Core.Path.{_≡_, refl, sym, ap, ap₂, _∙_}
 use mathlib.Core.List.{List}
 use mathlib.Core.Logic.{_≢_}
-use Prim.Native.Nat.{ℕ, zero, suc, _+_, _-_, _*_, _/_, _%_, _^_, _<_, _≤_}
+use Prim.Native.Nat.{ℕ, zero, suc, _+_, _-_, _*_, _/_, _%_, _^_, _<_, _≤_, min}
 use native.Mathlib.Nat.{add-zero}
 use native.Mathlib.Decide.{decLt}
 use native.Mathlib.Omega.{arith}
@@ -134,6 +134,24 @@ planes-word {m} {f} {d} {i} {s} {x} {y} p small h a b l e =
     ∙ stored-byte (high f) (setWord s p x) p (m + p) y k (λ j. omega (arith, small j)) (e .high-is) (omega (arith, n, h .room, h .long)) q r)
     (λ k q. other k (λ j z. omega arith) (λ j z. omega arith)) (λ k q. other (m + k) (λ j z. omega arith) (λ j z. omega arith))
     (λ k q. other k (λ j z. omega arith) (λ j z. omega arith))
+
+-- ---- loops that store two words a turn
+
+-- The words of the turn at place i of n bytes begin at p and q. The last begins eight bytes before the end, if need be within the one before it.
+module _ {n i p q : ℕ} (h : 8 ≤ n) (l : i < n) (first : p ≡ min i (n - 8)) (second : q ≡ min (i + 8) (n - 8)) where
+  pub filling-turn : {g : ℕ → ℕ} {d s t u : List ℕ} {x y : ℕ} → ((j : ℕ) → g j < 2) → n ≡ length d → Filling (byteOf g) (min i n) d s
+      → x ≡ fromBits 64 (from (8 * p) g) → y ≡ fromBits 64 (from (8 * q) g) → t ≡ setWord s p x → u ≡ setWord t q y → Filling (byteOf g) (min (i + 16) n) d u
+  filling-turn {x = x} {y = y} small long done ex ey et eu =
+      let e : q + 8 ≡ min (i + 16) n = omega arith in
+      rw (eu, et, ← e)
+      (filling-word small q y (filling-word small p x done (omega arith) (omega arith) (omega arith) ex) (omega arith) (omega arith) (omega arith) ey)
+
+  pub planes-turn : {f : ℕ → ℕ} {d s t u : List ℕ} {v w x y : ℕ} → ((j : ℕ) → f j < 4) → Planes n f (min i n) d s
+      → PlaneBits 64 f p v w → PlaneBits 64 f q x y → t ≡ setWord (setWord s p v) (n + p) w → u ≡ setWord (setWord t q x) (n + q) y → Planes n f (min (i + 16) n) d u
+  planes-turn small done ep eq et eu =
+      let e : q + 8 ≡ min (i + 16) n = omega arith in
+      rw (eu, et, ← e)
+      (planes-word q small (planes-word p small done (omega arith) (omega arith) (omega arith) ep) (omega arith) (omega arith) (omega arith) eq)
 
 -- ---- sums of strings
 

@@ -11,18 +11,19 @@ use lib.Seq.{length-take-le}
 use Rattle.linear_model.specs.Trits.{fitTrits}
 use Rattle.numbers.specs.Number.{_when_, first, onlyIf}
 use Rattle.numbers.proofs.Numbers.{first-end}
-use Rattle.matrix_model.specs.File.{checkNumber}
+use Rattle.matrix_model.specs.Block.{Layout}
+use Rattle.matrix_model.specs.File.{fileSize, faultsOf, checkNumberOf}
 use Rattle.pair_model.specs.Scheme.{Files, files, Reading, readsNothing, badLength, faultsIn, readingNumber, Scheme, layoutBytes, field}
-use Rattle.pair_model.specs.Base.{base}
+use Rattle.pair_model.specs.Base.{matrixReading}
 use Rattle.pair_model.specs.Tape.{dealLayout}
 use Rattle.pair_model.specs.Frame.{dealKind, openKind, maskKind, headerBytes, kindOf, bodyOf, frameBytes}
 use Rattle.pair_model.specs.Unit.{stepReading, leastOutput, unfitDeal, lengthConditions, contentConditions}
 use Rattle.pair_model.proofs.Internal.Fields.{field-at}
 
--- the matrix check gives the number of what is read for the rows
-pub check-number : (file : List ℕ) → checkNumber file ≡ readingNumber (base .rowsReading) (files file)
-unfolding checkNumber readingNumber
-check-number file = refl
+-- the check of a file of any layout gives the number of what is read of it
+pub reading-number : (layout : Layout) (file : List ℕ) → checkNumberOf layout file ≡ readingNumber (matrixReading (fileSize layout) (faultsOf layout)) (files file)
+unfolding readingNumber
+reading-number layout file = refl
 
 -- where its length is right, that of the faults
 pub faults-number : (reading : Reading) (lent : Files) → length (reading .content lent) ≡ reading .bytes → readingNumber reading lent ≡ first (faultsIn reading lent)

@@ -8,7 +8,7 @@ use Rattle.matrix.proofs.file.matrix_check.Tie as tie
 
 returns : tie.Need-returns
 unfolding checkNumber
-returns c = c .check-of .ensures ∙ ap (λ (l : Layout). checkNumberOf l (c .before .before .before .args .file .now)) (c .before .matrix-b .ensures)
+returns c = c .file-check .ensures ∙ ap (λ (l : Layout). checkNumberOf l (c .before .before .before .args .file .now)) (c .before .matrix-b .ensures)
 
 pub matrix-check-spec : {M : Type 1} → statement M
 matrix-check-spec = tie.close (tie.spec (λ c κs. tt) (λ c κs. subst Fits (sym (c .matrix-b .ensures)) matrixB-fits) returns)

@@ -24,7 +24,7 @@ returns c =
     let call = c .before .before in
     let b = call .before .before in
     let a = b .before .before .before .args in
-    of-document (layoutOf (b .matrix-b .result)) (b .matrix-b .ensures) (a .file .now) (a .out .now) (call .read-of .ensures)
+    of-document (layoutOf (b .matrix-b .result)) (b .matrix-b .ensures) (a .file .now) (a .out .now) (call .file-read .ensures)
 
 pub matrix-read-spec : {M : Type 1} → statement M
 matrix-read-spec =

@@ -24,7 +24,7 @@ returns c =
     let call = c .before .before in
     let b = call .before .before in
     let a = b .before .before .before .args in
-    of-document (layoutOf (b .matrix-b .result)) (b .matrix-b .ensures) (a .rows .now) (a .out .now) (call .write-of .ensures)
+    of-document (layoutOf (b .matrix-b .result)) (b .matrix-b .ensures) (a .rows .now) (a .out .now) (call .file-write .ensures)
 
 pub matrix-write-spec : {M : Type 1} → statement M
 matrix-write-spec =

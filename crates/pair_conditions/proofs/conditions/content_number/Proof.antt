@@ -9,7 +9,7 @@ use Rattle.numbers.proofs.Numbers.{holds}
 use Rattle.pair_frames.specs.Schemes.{schemeOf}
 use Rattle.pair_model.specs.Scheme.{files}
 use Rattle.pair_model.specs.Frame.{maskKind, frameBytes}
-use Rattle.pair_model.proofs.Internal.Contents.{check-number, faults-number, content-rows, content-none, content-deal}
+use Rattle.pair_model.proofs.Internal.Contents.{faults-number, content-rows, content-none, content-deal}
 use Rattle.pair_conditions.proofs.conditions.content_number.Statement.{statement}
 use Rattle.pair_conditions.proofs.conditions.content_number.Tie as tie
 
@@ -19,7 +19,7 @@ returns c =
     let S = schemeOf (s .args .sizes) in
     let lent = files (s .args .file .now) in
     let r = eqb→eq _ maskKind (holds _ (sym (c .before .before .reads-file .ensures) ∙ c .before .if1 .taken)) in
-    c .matrix-check .ensures ∙ check-number (s .args .file .now) ∙ faults-number (S .rowsReading) lent (s .pre .2 r) ∙ content-rows S (s .args .f .now) lent r
+    c .file-number .ensures ∙ faults-number (S .rowsReading) lent (s .pre .2 r) ∙ content-rows S (s .args .f .now) lent r
 
 returns-2 : tie.Need-returns-2
 returns-2 c =

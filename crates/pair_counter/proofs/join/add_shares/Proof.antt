@@ -40,8 +40,8 @@ add-shares-spec =
     (tie.spec
     share-of-requires
     share-of-requires-2
-    (λ c. omega (arith, c .before .before .before .before .before .before .pre .0 .digits))
-    (λ c. omega (arith, c .before .before .before .before .before .before .pre .0 .digits))
+    (λ c. omega (arith, c .before .before .before .before .before .before .pre .0 .share, c .before .before .before .before .before .before .pre .0 .key))
+    (λ c. omega (arith, c .before .before .before .before .before .before .pre .0 .share, c .before .before .before .before .before .before .pre .0 .key))
     (λ c. omega (arith, c .before .before .before .before .before .before .pre .3))
     slice-aggregate-add-trits
     (λ c κs. search needs)

@@ -119,8 +119,8 @@ pub join-number-spec : {M : Type 1} → statement M
 join-number-spec =
     tie.close
     (tie.spec
-    (λ c. omega (arith, c .before .before .before .pre .digits))
-    (λ c. omega (arith, c .before .before .before .pre .digits))
+    (λ c. omega (arith, c .before .before .before .pre .share, c .before .before .before .pre .key))
+    (λ c. omega (arith, c .before .before .before .pre .share, c .before .before .before .pre .key))
     returns
     (λ c κs. c .before .before .before .before .pre)
     (λ c κs. c .before .before .before .before .before .pre)

@@ -19,9 +19,9 @@ pub share-of-spec : {M : Type 1} → statement M
 share-of-spec =
     tie.close
     (tie.spec
-    (λ c. omega (arith, c .before .pre .0 .digits))
-    (λ c. omega (arith, c .before .pre .0 .digits))
-    (λ c. omega (arith, c .before .pre .0 .digits))
+    (λ c. omega (arith, c .before .pre .0 .share, c .before .pre .0 .key))
+    (λ c. omega (arith, c .before .pre .0 .share, c .before .pre .0 .key))
+    (λ c. omega (arith, c .before .pre .0 .share, c .before .pre .0 .key))
     (λ c. omega arith)
     (λ c. omega arith)
     (λ c. omega (arith, c .before .pre .1))

@@ -7,7 +7,7 @@ use Rattle.pair_deals.proofs.frames.second_r.Tie as tie
 returns : tie.Need-returns
 returns c =
     let s = c .before .before .before .before .before .before .before .before in
-    r-is (s .args .key-bytes) (s .args .inner-bytes) (s .args .tape .now) (s .args .out .now) _ (s .pre .1) (c .before .before .subtract-trits .ensures)
+    r-is (s .args .sizes) (s .args .tape .now) (s .args .out .now) _ (s .pre .1) (c .before .before .subtract-trits .ensures)
 
 pub second-r-spec : {M : Type 1} → statement M
 second-r-spec =

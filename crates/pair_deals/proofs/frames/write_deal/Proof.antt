@@ -9,7 +9,7 @@ returns : tie.Need-returns
 returns c =
     let s = c .before .before .before .before .before .before .before .before .before .before in
     let a = s .args in
-    deal-behind (a .key-bytes) (a .inner-bytes) (a .tape .now) (a .session) _ (omega arith) (a .out .now) _ _ (s .pre .1) (s .pre .2)
+    deal-behind (a .sizes) (a .tape .now) (a .session) _ (omega arith) (a .out .now) _ _ (s .pre .1) (s .pre .2)
     (c .before .before .before .before .before .before .write-first .ensures) (c .before .before .write-second .ensures)
 
 pub write-deal-spec : {M : Type 1} → statement M

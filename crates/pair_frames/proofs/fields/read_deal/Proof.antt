@@ -1,4 +1,5 @@
 -- `pair_frames::fields::read_deal` meets its contract: each part is a field of the deal, in the front of its room.
+use mathlib.Core.Path.{_≡_}
 use mathlib.Core.List.{List}
 use Prim.Native.Nat.{ℕ, _+_, _*_}
 use native.Mathlib.Omega.{arith}
@@ -6,28 +7,38 @@ use borrow.Author.Needs.{needs}
 use lib.Dec.{lit<}
 use Rattle.pair_model.specs.Tape.{dealLayout}
 use Rattle.pair_frames.specs.Schemes.{schemeOf}
-use Rattle.pair_frames.proofs.Parts.{field-front}
+use Rattle.pair_frames.proofs.Parts.{field-copied}
 use Rattle.pair_frames.proofs.fields.read_deal.Statement.{statement}
 use Rattle.pair_frames.proofs.fields.read_deal.Tie as tie
 
+-- the places of the fields
+second : (at n : ℕ) → at + n ≡ at + (n + 0)
+second at n = omega arith
+
+third : (at n : ℕ) → at + 2 * n ≡ at + (n + (n + 0))
+third at n = omega arith
+
+fourth : (at n m : ℕ) → at + 2 * n + m ≡ at + (n + (n + (m + 0)))
+fourth at n m = omega arith
+
 returns : tie.Need-returns
 returns c =
-    let r = c .before in
-    let z = r .before .before .before .before .before in
-    let x = z .before .before .before .before in
-    let k = x .before .before .before .before in
-    let e = k .before .before .before .before .before .before .before in
-    let s = e .args .s .now in
-    let at = e .args .at in
-    let n = e .args .sizes .«key_bytes» in
-    let m = e .args .sizes .«inner_bytes» in
-    let fields : List ℕ = dealLayout (schemeOf (e .args .sizes)) in (
-      field-front fields 0 at at (at + n) s (lit< tt) (omega arith) (omega arith) _ _ (omega (arith, e .pre .1)) (k .put .ensures),
+    let a = c .before .before .before .before .before .before .before .before .before .before .before .before .before .args in
+    let s = a .s .now in
+    let at = a .at in
+    let n = a .sizes .«key_bytes» in
+    let m = a .sizes .«inner_bytes» in
+    let fields : List ℕ = dealLayout (schemeOf (a .sizes)) in
+    let key = c .before .before .before .before .before .before .before .before .before .before .put-part .ensures in
+    let label = c .before .before .before .before .before .before .before .put-part2 .ensures in
+    let z = c .before .before .before .before .put-part3 .ensures in
+    let r = c .before .put-part4 .ensures in (
+      field-copied fields 0 at at s (lit< tt) (omega arith) _ _ (key .0) (key .1),
       (
-        field-front fields 1 at (at + n) (at + n + n) s (lit< tt) (omega arith) (omega arith) _ _ (omega (arith, e .pre .1)) (x .put2 .ensures),
+        field-copied fields 1 at (at + n) s (lit< tt) (second at n) _ _ (label .0) (label .1),
         (
-          field-front fields 2 at (at + n + n) (at + n + n + m) s (lit< tt) (omega arith) (omega arith) _ _ (omega (arith, e .pre .1)) (z .put3 .ensures),
-          field-front fields 3 at (at + n + n + m) (at + n + n + m + 2 * m) s (lit< tt) (omega arith) (omega arith) _ _ (omega (arith, e .pre .1)) (r .put4 .ensures),
+          field-copied fields 2 at (at + 2 * n) s (lit< tt) (third at n) _ _ (z .0) (z .1),
+          field-copied fields 3 at (at + 2 * n + m) s (lit< tt) (fourth at n m) _ _ (r .0) (r .1),
         ),
       ),
     )
@@ -37,24 +48,14 @@ read-deal-spec =
     tie.close
     (tie.spec
     (λ c. search needs)
-    (λ c. search needs)
-    (λ c. search needs)
-    (λ c. search needs)
-    (λ c. search needs)
+    (λ c κs. search needs)
     (λ c. search needs)
     (λ c. search needs)
     (λ c κs. search needs)
     (λ c. search needs)
     (λ c. search needs)
     (λ c. search needs)
-    (λ c. search needs)
     (λ c κs. search needs)
-    (λ c. search needs)
-    (λ c. search needs)
-    (λ c. search needs)
-    (λ c. search needs)
-    (λ c κs. search needs)
-    (λ c. search needs)
     (λ c. search needs)
     (λ c. search needs)
     (λ c. search needs)

@@ -1,15 +1,11 @@
--- `pair_sampler::sampler::sample` meets its contract: document 01's sizes.
-use mathlib.Core.Path.{refl}
-use native.Mathlib.Omega.{arith}
+-- `pair_sampler::sampler::sample` meets its contract: the sizes of document 01 stand for its scheme.
 use borrow.Author.Needs.{needs}
-use Rattle.pair_model.specs.Base.{base}
+use Rattle.pair_frames.proofs.Bases.{base-fits}
 use Rattle.pair_sampler.proofs.sampler.sample.Statement.{statement}
 use Rattle.pair_sampler.proofs.sampler.sample.Tie as tie
 
 returns : tie.Need-returns
-returns c =
-    let e = c .before .before .sample-sized .ensures in
-    (e .0 base refl refl, (e .1 .0 base refl refl, e .1 .1 base refl refl))
+returns c = c .before .before .sample-sized .ensures
 
 pub sample-spec : {M : Type 1} → statement M
-sample-spec = tie.close (tie.spec (λ c κs. (omega arith, omega arith)) (λ c. search needs) returns)
+sample-spec = tie.close (tie.spec (λ c κs. base-fits) (λ c. search needs) returns)

@@ -6,6 +6,7 @@ use borrow.Author.Needs.{needs}
 use lib.Dec.{lit<}
 use lib.Seq.{length-take-le}
 use Rattle.numbers.specs.Number.{output, reported}
+use Rattle.pair_frames.specs.Schemes.{schemeOf}
 use Rattle.pair_model.specs.Sampler.{Drawn, used}
 use Rattle.pair_sampler.proofs.Draws.{zeros-small}
 use Rattle.pair_sampler.proofs.Samples.{sample-output, sample-source, sample-few, sample-done, drawn-is, drawn-few, drawn-enough, part-long, sample-written}
@@ -15,18 +16,14 @@ use Rattle.pair_sampler.proofs.sampler.sample_sized.Tie as tie
 returns : tie.Need-returns
 unfolding output reported
 returns c =
-    let r = c .refused .ensures in (
-      λ S e f. r .0 ∙ sample-output S _ _ (omega arith),
-      (λ S e f. rw (r .0, r .1), λ S e f. rw (r .0)),
-    )
+    let r = c .refused .ensures in
+    (r .0 ∙ sample-output (schemeOf (c .before .before .before .before .args .sizes)) _ _ (omega arith), (rw (r .0, r .1), rw (r .0)))
 
 returns-2 : tie.Need-returns-2
 unfolding output reported
 returns-2 c =
-    let r = c .refused2 .ensures in (
-      λ S e f. r .0 ∙ sample-source S _ _ (omega arith) (omega arith),
-      (λ S e f. rw (r .0, r .1), λ S e f. rw (r .0)),
-    )
+    let r = c .refused2 .ensures in
+    (r .0 ∙ sample-source (schemeOf (c .before .before .before .before .before .args .sizes)) _ _ (omega arith) (omega arith), (rw (r .0, r .1), rw (r .0)))
 
 draw-trits-requires : tie.Need-draw-trits-requires
 draw-trits-requires c κs = (lit< tt, omega arith, omega arith, zeros-small 256)
@@ -35,10 +32,9 @@ returns-3 : tie.Need-returns-3
 unfolding output reported
 returns-3 c =
     let r = c .refused3 .ensures in
-    let d = c .before .before .before .before in (
-      λ S e f. r .0 ∙ sample-few S _ _ (omega arith) (omega arith) (drawn-few S _ _ _ e f (d .draw-trits .ensures .short (omega arith))),
-      (λ S e f. rw (r .0, r .1), λ S e f. rw (r .0)),
-    )
+    let d = c .before .before .before .before in
+    let S = schemeOf (d .before .before .before .before .before .before .args .sizes) in
+    (r .0 ∙ sample-few S _ _ (omega arith) (omega arith) (drawn-few S _ _ _ refl refl (d .draw-trits .ensures .short (omega arith))), (rw (r .0, r .1), rw (r .0)))
 
 slice-aggregate-put : tie.Need-slice-aggregate-put
 slice-aggregate-put c = let s = c .before .before .before .before .before .before .before .before .before .before in sym (length-take-le _ (s .args .source .now) (omega arith))
@@ -46,7 +42,7 @@ slice-aggregate-put c = let s = c .before .before .before .before .before .befor
 put-requires : tie.Need-put-requires
 put-requires c κs =
     let a = c .before .before .before .before .before .before .before .before .before .before .before .args in
-    omega (arith, length-take-le (4 * a .key-bytes + 2 * a .inner-bytes) (a .source .now) (omega arith))
+    omega (arith, length-take-le (4 * a .sizes .«key_bytes» + 2 * a .sizes .«inner_bytes») (a .source .now) (omega arith))
 
 pack-requires : tie.Need-pack-requires
 pack-requires c κs =
@@ -61,12 +57,13 @@ returns-4 c =
     let d = one .before .before .before .before .before .before in
     let s = d .before .before .before .before .before .before in
     let a = s .args in
-    let all = d .draw-trits .ensures .all (omega arith) in (
-      λ S e f. sample-done S _ _ (omega arith) (omega arith) (drawn-enough S _ _ _ e f _ (omega arith) (all .0)),
+    let S = schemeOf (a .sizes) in
+    let all = d .draw-trits .ensures .all (omega arith) in
+    let kept = d .draw-trits .kept in (
+      sample-done S _ _ (omega arith) (omega arith) (drawn-enough S _ _ (a .sizes .«inner_bytes») refl refl _ (omega (arith, kept .1 .1 .1 .1 .0, s .pre .inner)) (all .0)),
       (
-        λ S e f. c .bytes-before .ensures ∙ ap (λ (x : ℕ). (x + 3) / 4) (sym (ap (λ (x : Drawn). x .next) (drawn-is S _ _ _ e f) ∙ all .1)),
-        λ S e f.
-            sample-written S (a .source .now) (a .key-bytes) (a .inner-bytes) e f _ (a .out .now) _ _ (omega arith) (omega arith) (all .0) (one .put .ensures) (two .pack .ensures),
+        c .bytes-before .ensures ∙ ap (λ (x : ℕ). (x + 3) / 4) (sym (ap (λ (x : Drawn). x .next) (drawn-is S _ _ _ refl refl) ∙ all .1)),
+        sample-written S (a .source .now) (a .sizes .«key_bytes») (a .sizes .«inner_bytes») refl refl _ (a .out .now) _ _ (omega arith) (omega arith) (all .0) (one .put .ensures) (two .pack .ensures),
       ),
     )
 

@@ -1,7 +1,7 @@
 -- `pair_states::slices::deal_in_place` meets its contract: header, deal and zeros are copied, and the halves between them stay.
 use mathlib.Core.Path.{_≡_, refl, sym, ap, subst, _∙_}
 use mathlib.Core.List.{List, [], _∷_, _++_, append-assoc}
-use Prim.Native.Nat.{ℕ, _+_, _-_, _≤_}
+use Prim.Native.Nat.{ℕ, _+_, _-_, _*_, _≤_}
 use native.Mathlib.Omega.{arith}
 use borrow.Author.Needs.{needs}
 use lib.Dec.{lit<}
@@ -9,10 +9,12 @@ use lib.ListN.{length, take, drop, length-drop, take-append-drop}
 use lib.Seq.{drop-at, drop-drop, take-all, length-take-le}
 use Rattle.linear_model.specs.Bits.{zeros, addBits}
 use Rattle.linear_model.proofs.Copies.{pasted}
+use Rattle.linear_model.proofs.Strings.{length-zeros}
 use Rattle.numbers.specs.Number.{atFront}
+use Rattle.pair_frames.specs.Schemes.{schemeOf}
+use Rattle.pair_frames.proofs.Fronts.{zeros-front}
 use Rattle.pair_frames.proofs.Parts.{field-part}
-use Rattle.pair_model.specs.Scheme.{field, concat}
-use Rattle.pair_model.specs.Base.{base}
+use Rattle.pair_model.specs.Scheme.{Scheme, field, concat}
 use Rattle.pair_model.specs.Tape.{dealLayout}
 use Rattle.pair_model.specs.Frame.{Parameters, dealKind, openKind, header, frame, frameBytes, bodyOf}
 use Rattle.pair_model.specs.Unit.{takeDeal}
@@ -46,71 +48,90 @@ unfolding concat
 concat-append [] others = refl
 concat-append (s ∷ fields) others = append-assoc s (concat fields) (concat others) ∙ ap (λ (t : List ℕ). s ++ t) (concat-append fields others)
 
--- the slice afterwards is the state with the deal taken
-next : (s f : List ℕ) → length f ≡ frameBytes base dealKind
-    → header openKind (decodeState base s .parameters) ++ concat (take 32 (drop 6 s) ∷ take 32 (drop 38 s) ∷ bodyOf f ∷ zeros 32 ∷ [])
-    ≡ encodeState (takeDeal base (decodeState base s) (bodyOf f) .next)
-unfolding encodeState decodeState takeDeal frame concat field fieldsOf
-next s f l =
-    let b = bodyOf f in
-    let h = header openKind (decodeState base s .parameters) in
-    let parts : b ++ concat (zeros 32 ∷ []) ≡ concat (fieldsOf (dealLayout base) b ++ zeros 32 ∷ []) =
-    ap (λ (t : List ℕ). t ++ concat (zeros 32 ∷ [])) (sym (concat-fields (dealLayout base) b (length-drop 6 f ∙ omega arith)))
-    ∙ concat-append (fieldsOf (dealLayout base) b) (zeros 32 ∷ []) in
-    λ i. h ++ (take 32 (drop 6 s) ++ (take 32 (sym (drop-drop 32 6 s) i) ++ parts i))
+-- the slice after three copies: header, deal and zeros, with the halves between them as they were
+copied : (n m : ℕ) (d f head none o₁ o₂ o₃ : List ℕ) → length d ≡ 6 + (n + (n + (n + (n + (m + (2 * m + (m + 0))))))) → length head ≡ 6 → length none ≡ m
+    → length (take (2 * n + 3 * m) (drop 6 f)) ≡ 2 * n + 3 * m → o₁ ≡ pasted 0 head d → o₂ ≡ pasted (6 + n + n) (take (2 * n + 3 * m) (drop 6 f)) o₁
+    → o₃ ≡ pasted (6 + n + n + 2 * n + 3 * m) none o₂
+    → o₃ ≡ concat (head ∷ take n (drop 6 d) ∷ take n (drop (6 + n) d) ∷ take (2 * n + 3 * m) (drop 6 f) ∷ none ∷ [])
+copied n m d f head none o₁ o₂ o₃ l lh ln lf e₁ e₂ e₃ =
+    let all : ℕ = 2 * n + 3 * m in
+    let at : 6 + n + n + 2 * n + 3 * m ≡ 6 + n + n + all = omega arith in
+    let f1 = fields-more (fields-none {d = d}) 6 head o₁ lh (omega arith) e₁ in
+    let f2 = fields-kept f1 n (omega arith) in
+    let f3 = fields-kept f2 n (omega arith) in
+    let f4 = fields-more f3 all (take all (drop 6 f)) o₂ lf (omega arith) e₂ in
+    let f5 = fields-more f4 m none o₃ ln (omega arith) (e₃ ∙ ap (λ (k : ℕ). pasted k none o₂) at) in
+    fields-all f5 (omega arith)
 
--- the open frame of the slice's halves and the frame's masks
-written : (s f : List ℕ) (p : Parameters) (key label K̃ x̃ o : List ℕ) → p ≡ decodeState base s .parameters
-    → key ≡ field (secretsLayout base) 0 (bodyOf s) → label ≡ field (secretsLayout base) 1 (bodyOf s)
-    → K̃ ≡ field (dealLayout base) 0 (bodyOf f) → x̃ ≡ field (dealLayout base) 1 (bodyOf f)
-    → frame openKind p (concat (addBits 32 key K̃ ∷ addBits 32 label x̃ ∷ [])) ++ drop (frameBytes base openKind) o
-    ≡ atFront (takeDeal base (decodeState base s) (bodyOf f) .written) o
-unfolding takeDeal decodeState
-written s f p key label K̃ x̃ o t k l a b =
-    (λ i. frame openKind (t i) (concat (addBits 32 (k i) (a i) ∷ addBits 32 (l i) (b i) ∷ [])) ++ drop (frameBytes base openKind) o)
-    ∙ ap (λ (n : ℕ). takeDeal base (decodeState base s) (bodyOf f) .written ++ drop n o) (deal-length base (decodeState base s) (bodyOf f))
+module _ (S : Scheme) (s f : List ℕ) where
+  -- the slice afterwards is the state with the deal taken
+  next : length f ≡ frameBytes S dealKind
+      → header openKind (decodeState S s .parameters)
+      ++ concat (take (S .keyBytes) (drop 6 s) ∷ take (S .keyBytes) (drop (6 + S .keyBytes) s) ∷ bodyOf f ∷ zeros (S .innerBytes) ∷ [])
+      ≡ encodeState (takeDeal S (decodeState S s) (bodyOf f) .next)
+  unfolding encodeState decodeState takeDeal frame concat field fieldsOf
+  next l =
+      let n = S .keyBytes in
+      let b = bodyOf f in
+      let none = zeros (S .innerBytes) in
+      let h = header openKind (decodeState S s .parameters) in
+      let parts : b ++ concat (none ∷ []) ≡ concat (fieldsOf (dealLayout S) b ++ none ∷ []) =
+      ap (λ (t : List ℕ). t ++ concat (none ∷ [])) (sym (concat-fields (dealLayout S) b (length-drop 6 f ∙ omega arith)))
+      ∙ concat-append (fieldsOf (dealLayout S) b) (none ∷ []) in
+      λ i. h ++ (take n (drop 6 s) ++ (take n (sym (drop-drop n 6 s) i) ++ parts i))
+
+  -- the open frame of the slice's halves and the frame's masks
+  written : (p : Parameters) (key label K̃ x̃ o : List ℕ) → p ≡ decodeState S s .parameters
+      → key ≡ field (secretsLayout S) 0 (bodyOf s) → label ≡ field (secretsLayout S) 1 (bodyOf s)
+      → K̃ ≡ field (dealLayout S) 0 (bodyOf f) → x̃ ≡ field (dealLayout S) 1 (bodyOf f)
+      → frame openKind p (concat (addBits (S .keyBytes) key K̃ ∷ addBits (S .keyBytes) label x̃ ∷ [])) ++ drop (frameBytes S openKind) o
+      ≡ atFront (takeDeal S (decodeState S s) (bodyOf f) .written) o
+  unfolding takeDeal decodeState
+  written p key label K̃ x̃ o t k l a b =
+      (λ i. frame openKind (t i) (concat (addBits (S .keyBytes) (k i) (a i) ∷ addBits (S .keyBytes) (l i) (b i) ∷ [])) ++ drop (frameBytes S openKind) o)
+      ∙ ap (λ (n : ℕ). takeDeal S (decodeState S s) (bodyOf f) .written ++ drop n o) (deal-length S (decodeState S s) (bodyOf f))
+
+slice-aggregate-put-2 : tie.Need-slice-aggregate-put-2
+slice-aggregate-put-2 c = let s = c .before .before .before .before .before .before .before .before .before .before .before .before .before .before .before .before .before .before .before .before .before .before .before .before .before in sym (length-take-le (s .args .sizes .«inner_bytes») (zeros 32) (s .pre .0 .inner))
+
+put-requires-2 : tie.Need-put-requires-2
+put-requires-2 c κs =
+    let s = c .before .before .before .before .before .before .before .before .before .before .before .before .before .before .before .before .before .before .before .before .before .before .before .before .before .before in
+    let l = length-take-le (s .args .sizes .«inner_bytes») (zeros 32) (s .pre .0 .inner) in
+    let k1 = c .before .before .before .before .before .before .before .before .put .kept in
+    let k2 = c .before .before .before .before .put-part .kept in
+    omega (arith, l, s .pre .1)
 
 returns : tie.Need-returns
 unfolding concat header decodeState
 returns c =
-    let s = c .before .before .before .before .before .before .before .before .before .before .before .before .before .before .before .before .before .before .before .before .before .before .before .before .before .before .before .before .before .before in
+    let s = c .before .before .before .before .before .before .before .before .before .before .before .before .before .before .before .before .before .before .before .before .before .before .before .before .before .before .before .before .before in
     let d = s .args .state .now in
     let f = s .args .f .now in
     let o = s .args .out .now in
+    let n = s .args .sizes .«key_bytes» in
+    let m = s .args .sizes .«inner_bytes» in
+    let S = schemeOf (s .args .sizes) in
     let p = s .pre in
-    let t = c .before .before .before .before .before .before .before .before .before .before .before .before .before .before .before .before .before .before .before .before .before .before .before .before .before .parameters-of .ensures in
-    let head = c .before .before .before .before .before .before .before .before .before .before .before .before .before .before .before .header-bytes .result in
-    let is = c .before .before .before .before .before .before .before .before .before .before .before .before .before .before .before .header-bytes .ensures in
-    let body : take (166 - 6) (drop 6 f) ≡ bodyOf f = take-all 160 (bodyOf f) (rw length-drop (omega (arith, p .1))) in
-    let f1 = fields-more (fields-none {d = d}) 6 head _ (ap length is) (omega (arith, p .0)) (c .before .before .before .before .before .before .before .before .before .before .before .before .put .ensures) in
-    let f2 = fields-kept f1 32 (omega (arith, p .0)) in
-    let f3 = fields-kept f2 32 (omega (arith, p .0)) in
-    let f4 = fields-more f3 160 (take (166 - 6) (drop 6 f)) _ (ap length body ∙ length-drop 6 f ∙ omega (arith, p .1)) (omega (arith, p .0)) (c .before .before .before .before .before .before .before .put2 .ensures) in
-    let f5 = fields-more f4 32 (zeros 32) _ refl (omega (arith, p .0)) (c .before .before .put3 .ensures) in
-    let key = field-part (secretsLayout base) 0 6 6 38 d (lit< tt) refl refl in
-    let label = field-part (secretsLayout base) 1 6 38 70 d (lit< tt) refl refl in
-    let K̃ = field-part (dealLayout base) 0 6 6 38 f (lit< tt) refl refl in
-    let x̃ = field-part (dealLayout base) 1 6 38 70 f (lit< tt) refl refl in (
-      fields-all f5 (p .0)
-          ∙ (λ i. (is ∙ ap (header openKind) t) i ++ concat (take 32 (drop 6 d) ∷ take 32 (drop 38 d) ∷ body i ∷ zeros 32 ∷ []))
-          ∙ next d f (p .1),
-      c .before .before .before .before .before .before .before .before .before .before .before .before .before .before .before .before .before .before .write-open-frame .ensures
-          ∙ written d f _ _ _ _ _ o t key label K̃ x̃,
+    let t = c .before .before .before .before .before .before .before .before .before .before .before .before .before .before .before .before .before .before .before .before .before .before .before .before .parameters-of .ensures in
+    let is = c .before .before .before .before .before .before .before .before .before .before .before .before .before .before .header-bytes .ensures in
+    let part = c .before .before .before .before .before .before .before .put-part .ensures in
+    let body : take (2 * n + 3 * m) (drop 6 f) ≡ bodyOf f = take-all (2 * n + 3 * m) (bodyOf f) (rw length-drop (omega (arith, p .2))) in
+    let none = zeros-front m 32 (p .0 .inner) in
+    let key = field-part (secretsLayout S) 0 6 6 (6 + n) d (lit< tt) (omega arith) (omega arith) in
+    let label = field-part (secretsLayout S) 1 6 (6 + n) (6 + n + n) d (lit< tt) (omega arith) (omega arith) in
+    let K̃ = field-part (dealLayout S) 0 6 6 (6 + n) f (lit< tt) (omega arith) (omega arith) in
+    let x̃ = field-part (dealLayout S) 1 6 (6 + n) (6 + n + n) f (lit< tt) (omega arith) (omega arith) in (
+      copied n m d f (c .before .before .before .before .before .before .before .before .before .before .before .before .before .before .header-bytes .result) (take m (zeros 32)) _ _ _ (p .1) (ap length is) (ap length none ∙ length-zeros m) (part .0) (c .before .before .before .before .before .before .before .before .before .before .before .put .ensures) (part .1) (c .before .before .put2 .ensures)
+          ∙ (λ i. (is ∙ ap (header openKind) t) i ++ concat (take n (drop 6 d) ∷ take n (drop (6 + n) d) ∷ body i ∷ none i ∷ []))
+          ∙ next S d f (p .2),
+      c .before .before .before .before .before .before .before .before .before .before .before .before .before .before .before .before .before .write-open-frame .ensures ∙ written S d f _ _ _ _ _ o t key label K̃ x̃,
     )
 
 pub deal-in-place-spec : {M : Type 1} → statement M
 deal-in-place-spec =
     tie.close
     (tie.spec
-    (λ c κs. search needs)
-    (λ c. search needs)
-    (λ c. search needs)
-    (λ c. search needs)
-    (λ c. search needs)
-    (λ c. search needs)
-    (λ c. search needs)
-    (λ c. search needs)
-    (λ c. search needs)
     (λ c. search needs)
     (λ c. search needs)
     (λ c. search needs)
@@ -118,6 +139,19 @@ deal-in-place-spec =
     (λ c. search needs)
     (λ c. search needs)
     (λ c κs. search needs)
+    (λ c. search needs)
+    (λ c. search needs)
+    (λ c. search needs)
+    (λ c. search needs)
+    (λ c. search needs)
+    (λ c. search needs)
+    (λ c. search needs)
+    (λ c. search needs)
+    (λ c. search needs)
+    (λ c. search needs)
+    (λ c. search needs)
+    (λ c. search needs)
+    (λ c κs. search needs)
     (λ c κs. search needs)
     (λ c. search needs)
     (λ c κs. search needs)
@@ -126,7 +160,8 @@ deal-in-place-spec =
     (λ c. search needs)
     (λ c κs. search needs)
     (λ c. search needs)
-    (λ c κs. search needs)
+    slice-aggregate-put-2
+    put-requires-2
     (λ c. search needs)
     (λ c. search needs)
     returns)

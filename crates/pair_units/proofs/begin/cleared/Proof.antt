@@ -9,8 +9,8 @@ use lib.Seq.{length-take-le}
 use Rattle.linear_model.specs.Bits.{zeros}
 use Rattle.pair_frames.specs.Headers.{parametersIn}
 use Rattle.pair_frames.specs.Schemes.{schemeOf}
+use Rattle.pair_frames.proofs.Fronts.{zeros-front}
 use Rattle.pair_model.specs.Unit.{state, halves}
-use Rattle.pair_units.proofs.Rooms.{zeros-front}
 use Rattle.pair_units.proofs.begin.cleared.Statement.{statement}
 use Rattle.pair_units.proofs.begin.cleared.Tie as tie
 

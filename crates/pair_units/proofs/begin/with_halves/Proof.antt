@@ -8,8 +8,8 @@ use lib.Seq.{take-all, length-take-le}
 use Rattle.linear_model.specs.Bits.{zeros}
 use Rattle.pair_frames.specs.Headers.{parametersIn}
 use Rattle.pair_frames.proofs.Parts.{front-of-room}
+use Rattle.pair_frames.proofs.Fronts.{zeros-front}
 use Rattle.pair_model.specs.Unit.{state}
-use Rattle.pair_units.proofs.Rooms.{zeros-front}
 use Rattle.pair_units.proofs.begin.with_halves.Statement.{statement}
 use Rattle.pair_units.proofs.begin.with_halves.Tie as tie
 

@@ -22,7 +22,7 @@ take-deal-requires c κs =
     let a = s .args in
     let S = schemeOf (a .sizes) in
     let u = stateAt (a .sizes) (a .u) in
-    let h = fits S (u .parameters) (u .stage) (a .f .now) (files (a .file .now)) (length (a .out .now)) (s .pre .2) in
+    let h = fits S (u .parameters) (u .stage) (a .f .now) (files (a .file .now)) (length (a .out .now)) (s .pre .1) in
     (s .pre .0, h .frame-length ∙ ap (frameBytes S) (c .before .if1 .taken), h .room)
 
 returns : tie.Need-returns
@@ -43,7 +43,7 @@ take-open-requires c κs =
     let a = s .args in
     let S = schemeOf (a .sizes) in
     let u = stateAt (a .sizes) (a .u) in
-    let h = fits S (u .parameters) (u .stage) (a .f .now) (files (a .file .now)) (length (a .out .now)) (s .pre .2) in
+    let h = fits S (u .parameters) (u .stage) (a .f .now) (files (a .file .now)) (length (a .out .now)) (s .pre .1) in
     (s .pre .0, h .frame-length ∙ ap (frameBytes S) (c .before .if2 .taken), h .room)
 
 returns-2 : tie.Need-returns-2
@@ -64,10 +64,9 @@ take-mask-requires c κs =
     let a = s .args in
     let S = schemeOf (a .sizes) in
     let u = stateAt (a .sizes) (a .u) in
-    let h = fits S (u .parameters) (u .stage) (a .f .now) (files (a .file .now)) (length (a .out .now)) (s .pre .2) in
+    let h = fits S (u .parameters) (u .stage) (a .f .now) (files (a .file .now)) (length (a .out .now)) (s .pre .1) in
     let m : u .stage ≡ 3 = omega (arith, h .low, h .high) in
-    let f = s .pre .1 in
-    (s .pre .0, f, h .frame-length ∙ ap (frameBytes S) m, omega (arith, h .room, s .pre .0 .key, s .pre .0 .circulant, f .digits, f .inner), subst (λ (kind : ℕ). length (stepReading S kind .content (files (a .file .now))) ≡ stepReading S kind .bytes) m (h .read-length))
+    (s .pre .0, h .frame-length ∙ ap (frameBytes S) m, omega (arith, h .room, s .pre .0 .share), subst (λ (kind : ℕ). length (stepReading S kind .content (files (a .file .now))) ≡ stepReading S kind .bytes) m (h .read-length))
 
 returns-3 : tie.Need-returns-3
 returns-3 c =
@@ -77,7 +76,7 @@ returns-3 c =
     let lent = files (a .file .now) in
     let u = stateAt (a .sizes) (a .u) in
     let b = bodyOf (a .f .now) in
-    let h = fits S (u .parameters) (u .stage) (a .f .now) lent (length (a .out .now)) (s .pre .2) in
+    let h = fits S (u .parameters) (u .stage) (a .f .now) lent (length (a .out .now)) (s .pre .1) in
     let m : u .stage ≡ 3 = omega (arith, h .low, h .high) in
     let e = sym (advance-mask S u b lent m) in
     let t = c .before .before .before .take-mask .ensures in (

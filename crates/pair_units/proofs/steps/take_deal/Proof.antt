@@ -10,13 +10,14 @@ use Rattle.linear_model.specs.Bits.{zeros, addBits}
 use Rattle.pair_frames.specs.Headers.{parametersIn}
 use Rattle.pair_frames.specs.Schemes.{schemeOf}
 use Rattle.pair_frames.proofs.Parts.{field-part}
+use Rattle.pair_frames.proofs.Fronts.{prefix, prefix-long, zeros-front}
 use Rattle.pair_model.specs.Scheme.{concat}
 use Rattle.pair_model.specs.Tape.{dealLayout}
 use Rattle.pair_model.specs.Frame.{openKind, frame, frameBytes, bodyOf}
 use Rattle.pair_model.specs.Unit.{state, takeDeal}
 use Rattle.pair_model.proofs.Internal.Lengths.{deal-length}
 use Rattle.pair_units.specs.Units.{stateAt}
-use Rattle.pair_units.proofs.Rooms.{full, prefix, prefix-long, zeros-front}
+use Rattle.pair_units.proofs.Rooms.{full}
 use Rattle.pair_units.proofs.steps.take_deal.Statement.{statement}
 use Rattle.pair_units.proofs.steps.take_deal.Tie as tie
 

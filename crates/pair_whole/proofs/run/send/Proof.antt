@@ -4,7 +4,7 @@ use borrow.Author.Needs.{needs}
 use Rattle.linear_model.specs.Bits.{zeros}
 use Rattle.numbers.specs.Number.{atFront}
 use Rattle.pair_model.specs.Scheme.{files}
-use Rattle.pair_frames.proofs.Bases.{base-fits, base-fits-file}
+use Rattle.pair_frames.proofs.Bases.{base-fits}
 use Rattle.pair_model.specs.Base.{base}
 use Rattle.pair_model.specs.Unit.{Stepped, leastOutput}
 use Rattle.pair_model.proofs.Theorem.StepLaws.{step-accepted}
@@ -23,4 +23,4 @@ returns c =
     }
 
 pub send-spec : {M : Type 1} → statement M
-send-spec = tie.close (tie.spec (λ c. search needs) (λ c κs. (base-fits, base-fits-file, c .before .before .before .pre)) returns)
+send-spec = tie.close (tie.spec (λ c. search needs) (λ c κs. (base-fits, c .before .before .before .pre)) returns)

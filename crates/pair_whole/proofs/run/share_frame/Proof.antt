@@ -6,7 +6,7 @@ use borrow.Author.Needs.{needs}
 use lib.ListN.{take, drop}
 use Rattle.linear_model.specs.Bits.{zeros}
 use Rattle.pair_model.specs.Scheme.{files}
-use Rattle.pair_frames.proofs.Bases.{base-fits, base-fits-file}
+use Rattle.pair_frames.proofs.Bases.{base-fits}
 use Rattle.pair_model.specs.Base.{base}
 use Rattle.pair_model.specs.Frame.{maskKind, shareKind, frameBytes, bodyOf}
 use Rattle.pair_model.specs.Unit.{takeMask}
@@ -32,5 +32,5 @@ share-frame-spec =
     (λ c. search needs)
     (λ c. search needs)
     (λ c. search needs)
-    (λ c κs. (base-fits, base-fits-file, search needs, search needs, search needs))
+    (λ c κs. (base-fits, search needs, search needs, search needs))
     returns)

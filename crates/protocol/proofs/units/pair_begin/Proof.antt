@@ -49,4 +49,4 @@ returns-2 c =
     )
 
 pub pair-begin-spec : {M : Type 1} → statement M
-pair-begin-spec = tie.close (tie.spec returns (λ c κs. base-fits) (λ c κs. search needs) (λ c. search needs) returns-2)
+pair-begin-spec = tie.close (tie.spec returns (λ c κs. base-fits) (λ c κs. (base-fits, c .before .before .before .if1 .left)) (λ c. search needs) returns-2)

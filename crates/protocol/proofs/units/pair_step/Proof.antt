@@ -48,6 +48,7 @@ advance-slice-requires : tie.Need-advance-slice-requires
 advance-slice-requires c κs =
     let a = c .before .before .before .before .before .before .before .before .before .before .before .before .args in
     let s = a .state .now in (
+      base-fits,
       c .before .before .before .before .before .before .before .if1 .left,
       ap (λ (x : Parameters). stepNumber base x (kindOf s) (a .f .now) (files (a .file .now)) (length (a .out .now))) (sym (c .before .before .before .before .before .parameters-of .ensures))
           ∙ sym (c .before .before .before .step-number .ensures) ∙ c .before .before .if2 .left,

@@ -3,7 +3,7 @@ use mathlib.Core.Path.{sym, ap, _∙_}
 use borrow.Author.Needs.{needs}
 use lib.ListN.{length}
 use Rattle.numbers.specs.Number.{atFront}
-use Rattle.pair_frames.proofs.Bases.{base-fits, base-fits-file}
+use Rattle.pair_frames.proofs.Bases.{base-fits}
 use Rattle.pair_model.specs.Unit.{Stepped}
 use Rattle.pair_model.specs.Scheme.{files}
 use Rattle.pair_model.specs.Base.{base}
@@ -38,7 +38,7 @@ returns c =
     )
 
 advance-requires : tie.Need-advance-requires
-advance-requires c κs = (base-fits, base-fits-file, sym (c .before .before .step-number .ensures) ∙ c .before .if1 .left)
+advance-requires c κs = (base-fits, sym (c .before .before .step-number .ensures) ∙ c .before .if1 .left)
 
 returns-2 : tie.Need-returns-2
 returns-2 c =

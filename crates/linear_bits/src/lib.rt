@@ -1,0 +1,2 @@
+// Sums of bit strings modulo 2, for any size.
+pub mod bits;

@@ -1,0 +1,2 @@
+// Differences and inner shares modulo 3.
+pub mod shares;

@@ -1,0 +1,2 @@
+// Sums of trit vectors modulo 3.
+pub mod sums;

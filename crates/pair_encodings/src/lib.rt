@@ -1,0 +1,2 @@
+// A unit's state as the bytes of a slice.
+pub mod encodings;
