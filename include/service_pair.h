@@ -27,10 +27,10 @@
  *
  * STACK. What each call uses at most, arguments and return address included, in KiB, rounded up:
  *
- *     pair_matrix_check   0.4     pair_evaluate      0.9     pair_begin             0.7
- *     pair_matrix_read    0.4     pair_sample        0.4     pair_step, with deal   0.8
- *     pair_matrix_write   1.1     pair_deal          1.0     .. with open           2.8
- *     pair_join           0.3     pair_deal_source   1.3     .. with mask           3.2
+ *     pair_matrix_check   0.4     pair_evaluate      0.9     pair_begin             0.1
+ *     pair_matrix_read    0.4     pair_sample        0.4     pair_step, with deal   0.3
+ *     pair_matrix_write   1.1     pair_deal          1.0     .. with open           1.2
+ *     pair_join           0.3     pair_deal_source   1.3     .. with mask           1.1
  *                                                            pair_run               4.7
  *
  * A program that looks for memcpy at its first use (lazy binding) takes about 3.1 KiB more in the first call
@@ -38,8 +38,8 @@
  * by the toolchain rattle-kit-5b, its callers by GCC 12 and Clang 14. tests/c/stack.c measures the table again.
  *
  * Calls do not clear the stack that they used, and copies of secrets stay there until something else is
- * written over them: after pair_begin two of each half, after the steps with an open and a mask frame five
- * and two of each, after pair_deal_source pieces of the tape. A host overwrites them with
+ * written over them: after pair_run some of each half, after pair_deal_source pieces of the tape, after
+ * pair_evaluate and the steps with an open and a mask frame 32 to 64 bytes. A host overwrites them with
  * pair_wipe_stack (service_pair_text.h), called from the function that made the calls and after them; then
  * none was found. What it does not reach are vector registers, which keep pieces until other code uses them,
  * and what a signal handler has put further down. */

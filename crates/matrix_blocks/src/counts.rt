@@ -5,6 +5,7 @@ ghost use Rattle.matrix_model.specs.Block.{rowsIn};
 ghost use Rattle.matrix_model.specs.File.{Fits, blockCount, fileSize, rowsSize};
 ghost use Rattle.matrix_blocks.specs.Layouts.{layoutOf};
 use crate::layouts::Layout;
+use linear_words::bytes::least;
 use matrix_model::sizes::BLOCK_BYTES;
 
 // The blocks of a file.
@@ -31,15 +32,12 @@ pub fn rows_size(layout: Layout) -> usize
     layout.row_bytes * layout.row_count
 }
 
-// The rows in block `b`: a full block's but in the last one, which is tested for, so that both counts of a known layout are known.
+// The rows in block `b`: as many as a block holds; in the last block, what remains.
 pub fn rows_in(layout: Layout, b: usize) -> usize
     requires { ⌜ Fits (layoutOf layout) × (b < blockCount (layoutOf layout)) ⌝ }
     ensures { λ r. ⌜ r ≡ rowsIn (layoutOf layout) b ⌝ }
 {
-    if b + 1 == block_count(layout) {
-        return layout.row_count - layout.block_rows * b;
-    }
-    layout.block_rows
+    least(layout.block_rows, layout.row_count - layout.block_rows * b)
 }
 
 // The bytes of the rows in block `b`.

@@ -57,7 +57,7 @@ fn add_word(c: Lanes, x: u64) -> Lanes
 }
 
 // A group of 256 bytes in lanes, sixteen rows of two words. No lane is ever full: `pairs` is at most 16 * 510, and `ahead` at
-// most 120 * 510 = 61,200.
+// most 120 * 510 = 61,200. Two rows a turn are enough work for the compiler to make vector registers of left and right.
 fn in_columns(part: &[u8]) -> Columns
     requires { ⌜ length (now part) ≡ groupBytes ⌝ }
     ensures { λ r. ⌜ LanesOf (now (part .entry)) r ⌝ }
@@ -76,7 +76,10 @@ fn in_columns(part: &[u8]) -> Columns
     while i < GROUP_BYTES {
         left = add_word(left, word_at(part, i));
         right = add_word(right, word_at(part, i + 8));
-        i += 16;
+        let next = i + 16;
+        left = add_word(left, word_at(part, next));
+        right = add_word(right, word_at(part, next + 8));
+        i = next + 16;
     }
     Columns {
         pairs: Sides {

@@ -14,14 +14,15 @@ use Rattle.linear_model.proofs.Strings.{add-comm, bytes-add}
 use Rattle.linear_model.proofs.Vectors.{bytes-subtract}
 use Rattle.numbers.specs.Number.{output}
 use Rattle.pair_model.specs.Scheme.{noFiles, Side, side0, side1, concat}
-use Rattle.pair_model.specs.Tape.{tapeBytes, K̃, x̃, w̃, z, z0, r, r0, deal}
-use Rattle.pair_model.specs.Frame.{Parameters, sharedParameters, parametersOf, dealKind, header, frame, frameBytes}
+use Rattle.pair_model.specs.Tape.{tapeBytes, K̃, x̃, w̃, z, r, r0, deal}
+use Rattle.pair_model.specs.Frame.{sharedParameters, parametersOf, dealKind, header, frame, frameBytes}
 use Rattle.pair_model.specs.Dealer.{dealFrame, dealt, dealtBytes}
 use Rattle.pair_model.proofs.Internal.Fields.{tape-K̃0, tape-K̃1, tape-x̃0, tape-x̃1, tape-w̃, tape-z0, tape-r0}
 use Rattle.pair_model.proofs.Internal.Deals.{fit-r0, deal-written}
 use Rattle.pair_model.proofs.Internal.FieldCopies.{FieldsCopied, fields-none, fields-more, fields-front}
 use Rattle.pair_frames.specs.declared.sizes.Sizes.{Sizes}
 use Rattle.pair_frames.specs.Schemes.{schemeOf}
+use Rattle.pair_frames.proofs.Parts.{headed}
 
 -- the k bytes from a to b
 pub cut : (a b k : ℕ) (t : List ℕ) → b ≡ a + k → take (b - a) (drop a t) ≡ take k (drop a t)
@@ -39,11 +40,6 @@ part-pasted : (k n : ℕ) (o v : List ℕ) → length v ≡ n → take k o ++ (v
 part-pasted k n o v e =
     ap (λ (x : List ℕ). take k o ++ (v ++ x)) (drop-drop n k o ∙ ap (λ (x : ℕ). drop (k + x) o) (sym e))
     ∙ sym (append-assoc (take k o) v (drop (k + length v) o))
-
--- a header has six bytes
-header-long : (kind : ℕ) (t : Parameters) → length (header kind t) ≡ 6
-unfolding header
-header-long kind t = refl
 
 abbrev key : Sizes → ℕ
 key sizes = sizes .«key_bytes»
@@ -126,7 +122,7 @@ module _ (sizes : Sizes) (t : List ℕ) where
         → FieldsCopied (6 + key sizes + key sizes) (h ∷ take (key sizes) (drop j t) ∷ take (key sizes) (drop k t) ∷ []) d o₂
     front-fields j k o₀ o₁ o₂ hj hk e₀ e₁ e₂ =
         let n = key sizes in
-        let f₀ = fields-more (fields-none {d = d}) 6 h o₀ (ap length is ∙ header-long dealKind _) (omega arith) e₀ in
+        let f₀ = fields-more (fields-none {d = d}) 6 h o₀ (headed h dealKind _ is) (omega arith) e₀ in
         let f₁ = fields-more f₀ n (take n (drop j t)) o₁ (part-size j n hj) (omega arith) e₁ in
         fields-more f₁ n (take n (drop k t)) o₂ (part-size k n hk) (omega arith) e₂
 

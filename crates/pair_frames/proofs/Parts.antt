@@ -1,5 +1,5 @@
--- Parts of strings by their places: a field that is read from a part, alone or to the front of a room, and a part that is written in place.
-use mathlib.Core.Path.{_≡_, sym, ap, subst, _∙_}
+-- Parts of strings by their places: a header, a field that is read from a part, alone or to the front of a room, and a part that is written in place.
+use mathlib.Core.Path.{_≡_, refl, sym, ap, subst, _∙_}
 use mathlib.Core.List.{List, [], _∷_, _++_, append-assoc}
 use Prim.Native.Nat.{ℕ, _+_, _-_, _<_, _≤_}
 use native.Mathlib.Omega.{arith}
@@ -9,12 +9,21 @@ use Rattle.linear_model.specs.Bits.{addBits}
 use Rattle.linear_model.proofs.Copies.{pasted}
 use Rattle.linear_model.proofs.Strings.{bytes-add}
 use Rattle.pair_model.specs.Scheme.{layoutBytes, field, concat}
+use Rattle.pair_model.specs.Frame.{Parameters, header}
 use Rattle.pair_model.proofs.Internal.Fields.{field-at}
 use Rattle.pair_model.proofs.Internal.FieldCopies.{FieldsCopied, fields-more, fields-front}
 
 -- what is copied to the front of a room is read there
 pub front-of-room : (s d o : List ℕ) (n : ℕ) → length s ≡ n → o ≡ pasted 0 s d → take n o ≡ s
 front-of-room s d o n l e = ap (take n) e ∙ take-at s (drop (0 + length s) d) n l
+
+-- a header has six bytes
+header-long : (kind : ℕ) (t : Parameters) → length (header kind t) ≡ 6
+unfolding header
+header-long kind t = refl
+
+pub headed : (h : List ℕ) (kind : ℕ) (t : Parameters) → h ≡ header kind t → length h ≡ 6
+headed h kind t e = ap length e ∙ header-long kind t
 
 -- bytes k to j of a string
 pub part-long : (s : List ℕ) (k j : ℕ) → k ≤ j → j ≤ length s → length (take (j - k) (drop k s)) ≡ j - k

@@ -1,5 +1,5 @@
 -- Laws of a reader that keeps the trits that it finds, pair by pair and four pairs at a time.
-use mathlib.Core.Path.{_≡_, refl, sym, ap, ap₂, _∙_}
+use mathlib.Core.Path.{_≡_, sym, ap, ap₂, _∙_}
 use mathlib.Core.Logic.{_≢_}
 use mathlib.Core.List.{List, [], _∷_, _++_, append-nil, append-assoc}
 use mathlib.Core.Bool.{Bool, cond}
@@ -138,6 +138,10 @@ module _ {s : List ℕ} {w start : ℕ} (t : List ℕ) (f k v : ℕ) (h : Readin
       let four = reading-more (kept₃ .trits) (kept₃ .count) (k + 1 + 1 + 1) (v / 64 % 4) three (omega arith) (omega arith) fourth in
       let q : k + 1 + 1 + 1 + 1 ≡ k + 4 = omega arith in
       rw q at four
+
+-- a store counts at most one trit
+pub counted-one : (r f p : ℕ) → r ≡ f + (1 - p / 3) → r ≤ f + 1
+counted-one r f p e = omega arith
 
 -- four stores, one after the other
 pub kept-four : (v f₀ f₁ f₂ f₃ f₄ : ℕ) (t₀ t₁ t₂ t₃ t₄ : List ℕ)

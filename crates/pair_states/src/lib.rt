@@ -1,2 +1,3 @@
-// A unit's state in a slice.
-pub mod slices;
+// A unit's state in a slice: how it begins there, and the own mask that is made of it.
+pub mod beginnings;
+pub mod masks;

@@ -1,22 +1,20 @@
 // The beginning of a unit, and states without a deal.
 ghost use mathlib.Core.Path.{_≡_};
-ghost use Prim.Native.Nat.{ℕ};
 ghost use lib.ListN.{length};
 ghost use Rattle.pair_model.specs.Base.{base};
 ghost use Rattle.pair_model.specs.Frame.{parameters};
-ghost use Rattle.pair_model.specs.Unit.{state, halves, nothing, begin, beginNumber};
+ghost use Rattle.pair_model.specs.Unit.{state, halves, nothing, begin};
 ghost use Rattle.pair_model.specs.Run.{protocol};
 ghost use Rattle.pair_model.specs.Theorem.{Begins, Privacy};
 ghost use Rattle.pair_frames.specs.Headers.{parametersIn};
 ghost use Rattle.pair_frames.specs.Schemes.{schemeOf, Fits};
 ghost use Rattle.pair_units.specs.Units.{stateAt, unitOf};
-use crate::state::IDLE;
 use crate::state::UnitState;
-use crate::state::WAITS_FOR_DEAL;
 use linear_words::copies::put;
 use numbers::table::DONE;
-use numbers::table::NO_SIDE;
-use numbers::table::WRONG_LENGTH;
+use pair_conditions::begin::begin_number;
+use pair_conditions::stages::IDLE;
+use pair_conditions::stages::WAITS_FOR_DEAL;
 use pair_frames::parameters::Parameters;
 use pair_frames::sizes::BASE;
 use pair_frames::sizes::INNER_ROOM;
@@ -37,11 +35,10 @@ pub fn with_halves(
         stateAt sizes u ≡ state (parametersIn parameters) stage (halves (schemeOf sizes) (now (key .entry)) (now (label .entry)))
         ⌝ }
 {
-    let n = sizes.key_bytes;
     let mut key_half = [0u8; KEY_ROOM];
     let mut label_half = [0u8; KEY_ROOM];
-    put(&key[..n], &mut key_half, 0);
-    put(&label[..n], &mut label_half, 0);
+    put(key, &mut key_half, 0);
+    put(label, &mut label_half, 0);
     UnitState {
         parameters: parameters,
         stage: stage,
@@ -70,21 +67,6 @@ pub fn cleared(sizes: Sizes, parameters: Parameters, stage: u8) -> UnitState
 pub struct Begun {
     pub result: u32,
     pub next: UnitState,
-}
-
-// The number of a beginning.
-fn begin_number(sizes: Sizes, side: u32, key: &[u8], label: &[u8]) -> u32
-    ensures { λ r. ⌜
-        ((session : ℕ) → r ≡ beginNumber (schemeOf sizes) (parameters side session) (now (key .entry)) (now (label .entry)))
-        ⌝ }
-{
-    if key.len() != sizes.key_bytes {
-        return WRONG_LENGTH;
-    }
-    if label.len() != sizes.key_bytes {
-        return WRONG_LENGTH;
-    }
-    if 1 < side { NO_SIDE } else { DONE }
 }
 
 // A unit of this side and session with these halves, or the idle state.

@@ -4,17 +4,6 @@ use pair_frames::sizes::INNER_ROOM;
 use pair_frames::sizes::KEY_ROOM;
 use pair_frames::sizes::TRITS_ROOM;
 
-// The stages: the kind of frame that the unit waits for, or none.
-pub const IDLE: u8 = 0;
-
-pub const WAITS_FOR_DEAL: u8 = 1;
-
-pub const WAITS_FOR_OPEN: u8 = 2;
-
-pub const WAITS_FOR_MASK: u8 = 3;
-
-pub const FINISHED: u8 = 4;
-
 // The parameters, the stage, and the two halves, the deal and the own mask ŵi, each in the front of its room.
 pub struct UnitState {
     pub parameters: Parameters,

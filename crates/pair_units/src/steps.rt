@@ -10,13 +10,13 @@ ghost use Rattle.pair_model.specs.Frame.{dealKind, openKind, maskKind, shareKin
 ghost use Rattle.pair_model.specs.Unit.{takeDeal, takeOpen, takeMask, advance, stepNumber};
 ghost use Rattle.pair_units.specs.Units.{stateAt};
 use crate::begin::cleared;
-use crate::state::FINISHED;
 use crate::state::UnitState;
-use crate::state::WAITS_FOR_DEAL;
-use crate::state::WAITS_FOR_MASK;
-use crate::state::WAITS_FOR_OPEN;
 use pair_bodies::masks::write_own_mask;
 use pair_bodies::shares::write_share_frame;
+use pair_conditions::stages::FINISHED;
+use pair_conditions::stages::WAITS_FOR_DEAL;
+use pair_conditions::stages::WAITS_FOR_MASK;
+use pair_conditions::stages::WAITS_FOR_OPEN;
 use pair_frames::fields::read_deal;
 use pair_frames::fields::write_open_frame;
 use pair_frames::frame::MASK;

@@ -1,11 +1,25 @@
 -- What a step has sent, taken over into a round.
-use mathlib.Core.Path.{_≡_, ap, _∙_}
+use mathlib.Core.Path.{_≡_, ap, subst, _∙_}
 use mathlib.Core.List.{List}
 use Prim.Native.Nat.{ℕ}
-use Rattle.pair_model.specs.Unit.{Stepped}
+use Rattle.pair_model.specs.Scheme.{files}
+use Rattle.pair_model.specs.Base.{base}
+use Rattle.pair_model.specs.Frame.{parameters}
+use Rattle.pair_model.specs.Unit.{State, Stepped, begin, leastOutput, stepNumber, step}
 use Rattle.pair_model.specs.Internal.Exchange.{Sends}
 use Rattle.pair_units.specs.declared.state.UnitState.{UnitState}
 use Rattle.pair_units.specs.Units.{stateOf}
 
 pub sends-same : {s : Stepped} {f g : List ℕ} {u v : UnitState} → (f ≡ g) × (u ≡ v) → Sends s g (stateOf v) → Sends s f (stateOf u)
 sends-same e s = record { frame-is = e .0 ∙ s .frame-is; next-is = ap stateOf (e .1) ∙ s .next-is }
+
+-- the first step of a unit with the same halves, deal frame and file
+module _ (side : ℕ) {k₀ k₁ l₀ l₁ f₀ f₁ x₀ x₁ : List ℕ} (k : k₀ ≡ k₁) (l : l₀ ≡ l₁) (f : f₀ ≡ f₁) (x : x₀ ≡ x₁) where
+  pub start-accepted : stepNumber base (begin base (parameters side 1) k₁ l₁ .next .parameters) (begin base (parameters side 1) k₁ l₁ .next .stage) f₁ (files x₁) (leastOutput base) ≡ 0
+      → stepNumber base (begin base (parameters side 1) k₀ l₀ .next .parameters) (begin base (parameters side 1) k₀ l₀ .next .stage) f₀ (files x₀) (leastOutput base) ≡ 0
+  start-accepted e =
+      (λ i. stepNumber base (begin base (parameters side 1) (k i) (l i) .next .parameters) (begin base (parameters side 1) (k i) (l i) .next .stage) (f i) (files (x i)) (leastOutput base)) ∙ e
+
+  pub start-sent : {g : List ℕ} {v : State} → Sends (step base (begin base (parameters side 1) k₀ l₀ .next) f₀ (files x₀) (leastOutput base)) g v
+      → Sends (step base (begin base (parameters side 1) k₁ l₁ .next) f₁ (files x₁) (leastOutput base)) g v
+  start-sent {g} {v} = subst (λ (s : Stepped). Sends s g v) (λ i. step base (begin base (parameters side 1) (k i) (l i) .next) (f i) (files (x i)) (leastOutput base))

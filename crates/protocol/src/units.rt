@@ -16,12 +16,11 @@ ghost use Rattle.pair_model.specs.Calls.{StatesFit, CallsAreRuns};
 use numbers::table::DONE;
 use numbers::table::WRONG_LENGTH;
 use pair_conditions::conditions::step_number;
-use pair_encodings::encodings::encode;
 use pair_frames::frame::parameters_of;
 use pair_frames::sizes::BASE;
 use pair_frames::sizes::STATE_BYTES;
-use pair_states::slices::advance_slice;
-use pair_units::begin::begin_unit;
+use pair_slices::slices::advance_slice;
+use pair_states::beginnings::begin_slice;
 
 // Begins a unit in a slice. A refused beginning writes the idle state, since an old state would go on accepting frames; only a slice of
 // another length stays as it was. The slice then stands for the model's state, and lists of both calls are runs of the theorem.
@@ -52,10 +51,7 @@ pub extern "C" fn pair_begin(
     if state.len() != STATE_BYTES {
         return WRONG_LENGTH;
     }
-    let b = begin_unit(BASE, side, session, key, label);
-    let next = b.next;
-    encode(BASE, next, state);
-    b.result
+    begin_slice(BASE, side, session, key, label, state)
 }
 
 // One step of the unit in a slice: what it writes goes to `out`, and how much to `count`; a refused step leaves the slice as it was. It is

@@ -1,6 +1,5 @@
 -- `pair_bodies::masks::add_products` meets its contract: both products and two sums in a row.
 use mathlib.Core.Path.{_∙_}
-use borrow.Author.Needs.{needs}
 use Rattle.linear_model.specs.Bits.{addBits}
 use Rattle.linear_model.specs.Products.{circulantProduct}
 use Rattle.pair_bodies.proofs.masks.add_products.Statement.{statement}
@@ -22,10 +21,10 @@ pub add-products-spec : {M : Type 1} → statement M
 add-products-spec =
     tie.close
     (tie.spec
-    (λ c κs. search needs)
-    (λ c κs. search needs)
-    (λ c κs. search needs)
-    (λ c κs. search needs)
-    (λ c. search needs)
-    (λ c. search needs)
+    (λ c κs. tt)
+    (λ c κs. tt)
+    (λ c κs. tt)
+    (λ c κs. tt)
+    (λ c. c .before .before .before .before .before .before .before .before .before .before .work .given)
+    (λ c. c .before .out3 .given ∙ c .before .before .before .before .before .out2 .given ∙ c .before .before .before .before .before .before .before .before .before .before .before .before .before .before .out .given)
     returns)

@@ -3,9 +3,7 @@ use mathlib.Core.Path.{sym, ap, _∙_}
 use mathlib.Core.List.{List}
 use mathlib.Core.Bool.{cond}
 use Prim.Native.Nat.{ℕ}
-use borrow.Author.Needs.{needs}
 use lib.Dec.{eqb}
-use lib.ListN.{length}
 use lib.Seq.{length-take-le}
 use Rattle.linear_model.specs.Bits.{zeros, addBits}
 use Rattle.linear_model.specs.Products.{circulantProduct}
@@ -54,13 +52,13 @@ pub mask-of-spec : {M : Type 1} → statement M
 mask-of-spec =
     tie.close
     (tie.spec
-    (λ c. search needs)
+    (λ c. c .before .before .before .before .before .before .pre .0 .key)
     slice-aggregate-label-factor
     label-factor-requires
     array-share-prefix-factor
     slice-aggregate-add-products
-    (λ c. search needs)
+    (λ c. c .before .before .before .before .before .before .before .before .before .before .pre .0 .inner)
     slice-aggregate-add-products-2
     add-products-requires
-    (λ c. search needs)
+    (λ c. c .before .out .given)
     returns)

@@ -1,9 +1,7 @@
 -- `pair_bodies::masks::write_own_mask` meets its contract: K̂ and x̂ are the sums of both open bodies.
-use mathlib.Core.Path.{_≡_, sym, ap, _∙_}
-use mathlib.Core.List.{List}
+use mathlib.Core.Path.{sym, _∙_}
 use Prim.Native.Nat.{_+_}
 use native.Mathlib.Omega.{arith}
-use borrow.Author.Needs.{needs}
 use lib.Dec.{lit<}
 use lib.Seq.{length-take-le}
 use Rattle.linear_model.specs.Bits.{zeros, addBits}
@@ -56,24 +54,24 @@ pub write-own-mask-spec : {M : Type 1} → statement M
 write-own-mask-spec =
     tie.close
     (tie.spec
-    (λ c. search needs)
-    (λ c. search needs)
-    (λ c. search needs)
-    (λ c. search needs)
-    (λ c. search needs)
+    (λ c. omega (arith, c .before .before .before .before .before .before .before .pre .0 .key))
+    (λ c. omega arith)
+    (λ c. omega arith)
+    (λ c. omega (arith, c .before .before .before .before .before .before .before .pre .2))
+    (λ c. c .before .before .before .before .before .before .before .before .pre .0 .key)
     slice-aggregate-add-opened
-    (λ c κs. search needs)
-    (λ c. search needs)
-    (λ c. search needs)
-    (λ c. search needs)
-    (λ c. search needs)
-    (λ c. search needs)
+    (λ c κs. tt)
+    (λ c. omega (arith, c .before .before .before .before .before .before .before .before .before .before .before .pre .0 .key))
+    (λ c. omega arith)
+    (λ c. omega arith)
+    (λ c. omega (arith, c .before .before .before .before .before .before .before .before .before .before .before .pre .2))
+    (λ c. c .before .before .before .before .before .before .before .before .before .before .before .before .pre .0 .key)
     slice-aggregate-add-opened-2
-    (λ c κs. search needs)
+    (λ c κs. tt)
     array-share-prefix-key-hat
     slice-aggregate-mask-of
     array-share-prefix-label-hat
     slice-aggregate-mask-of-2
-    (λ c κs. search needs)
-    (λ c. search needs)
+    (λ c κs. let s = c .before .before .before .before .before .before .before .before .before .before .before .before .before .before .before .before .before .before in (s .pre .0, s .pre .1, s .pre .3))
+    (λ c. c .before .out .given)
     returns)

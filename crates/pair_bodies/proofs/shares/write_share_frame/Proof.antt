@@ -1,9 +1,8 @@
 -- `pair_bodies::shares::write_share_frame` meets its contract: the sum, the inner share and the product are the definition's.
-use mathlib.Core.Path.{_≡_, refl, sym, ap, _∙_}
+use mathlib.Core.Path.{_≡_, sym, ap, _∙_}
 use mathlib.Core.List.{List, _++_, append-nil}
 use Prim.Native.Nat.{ℕ, _+_, _-_, _*_, _≤_}
 use native.Mathlib.Omega.{arith}
-use borrow.Author.Needs.{needs}
 use lib.ListN.{length, take, drop}
 use lib.Seq.{length-take-le}
 use Rattle.linear_model.specs.Bits.{zeros, addBits}
@@ -13,7 +12,7 @@ use Rattle.numbers.specs.Number.{atFront}
 use Rattle.pair_frames.specs.Headers.{parametersIn}
 use Rattle.pair_frames.specs.Schemes.{schemeOf}
 use Rattle.pair_frames.proofs.Fronts.{lent-fits, lent-front, lent-long, lent-share, filled}
-use Rattle.pair_frames.proofs.Parts.{behind-long, fields-part}
+use Rattle.pair_frames.proofs.Parts.{headed, behind-long, fields-part}
 use Rattle.pair_model.specs.Scheme.{files, concat}
 use Rattle.linear_model.proofs.Copies.{pasted}
 use Rattle.pair_model.proofs.Internal.Lengths.{length-frame}
@@ -43,16 +42,12 @@ array-share-prefix-inner c = let s = c .before .before .before .before .before .
 slice-aggregate-write-code : tie.Need-slice-aggregate-write-code
 slice-aggregate-write-code c = let s = c .before .before .before .before .before .before .before .before .before .before .before .before .before .before .before .before .before .before .before .before in let l = c .before .before .before .before .before .before .before .before .inner-share in sym (lent-long (2 * s .args .sizes .«inner_bytes») (zeros 64) (l .last .1 .1 .1 .0) (omega (arith, s .pre .0 .inner)) (l .kept .1 .1 .1 .0))
 
-header-long : (kind : ℕ) (t : Parameters) → length (header kind t) ≡ 6
-unfolding header
-header-long kind t = refl
-
 -- the frame, by its header, which was copied to the front, and its body, which was written behind
 written : (kind n end : ℕ) (t : Parameters) (d o head body w : List ℕ) → end ≡ 6 + n → head ≡ header kind t → length body ≡ n → 6 + n ≤ length d → o ≡ pasted 0 head d
     → w ≡ atFront body (take (end - 6) (drop 6 o)) → take 6 o ++ (w ++ drop (end - 6) (drop 6 o)) ≡ atFront (frame kind t body) d
 unfolding frame concat
 written kind n end t d o head body w e h l room is ew =
-    let f = fields-more (fields-none {d = d}) 6 head o (ap length h ∙ header-long kind t) (omega arith) is in
+    let f = fields-more (fields-none {d = d}) 6 head o (headed head kind t h) (omega arith) is in
     let b : w ≡ body = filled (take (6 + n - 6) (drop 6 o)) w body (behind-long f n room) l (ew ∙ ap (λ (k : ℕ). atFront body (take (k - 6) (drop 6 o))) e) in
     (λ i. take 6 o ++ (b i ++ drop (e i - 6) (drop 6 o)))
     ∙ fields-front (fields-part f n room body l)
@@ -63,7 +58,7 @@ written kind n end t d o head body w e h l room is ew =
 behind : (n end : ℕ) (t : Parameters) (d o head : List ℕ) (kind : ℕ) → end ≡ 6 + n → head ≡ header kind t → 6 + n ≤ length d → o ≡ pasted 0 head d → length (take (end - 6) (drop 6 o)) ≡ n
 behind n end t d o head kind e h room is =
     ap (λ (k : ℕ). length (take (k - 6) (drop 6 o))) e
-    ∙ behind-long (fields-more (fields-none {d = d}) 6 head o (ap length h ∙ header-long kind t) (omega arith) is) n room
+    ∙ behind-long (fields-more (fields-none {d = d}) 6 head o (headed head kind t h) (omega arith) is) n room
 
 write-code-requires : tie.Need-write-code-requires
 write-code-requires c κs =
@@ -102,24 +97,24 @@ pub write-share-frame-spec : {M : Type 1} → statement M
 write-share-frame-spec =
     tie.close
     (tie.spec
-    (λ c. search needs)
-    (λ c κs. search needs)
-    (λ c. search needs)
+    (λ c. omega (arith, c .before .before .before .before .before .pre .0 .inner))
+    (λ c κs. c .before .before .before .before .before .pre .0)
+    (λ c. c .before .before .before .before .before .before .pre .0 .inner)
     slice-aggregate-add-bits
-    (λ c κs. search needs)
+    (λ c κs. tt)
     array-share-prefix-w
     slice-aggregate-inner-share
-    (λ c. search needs)
+    (λ c. omega (arith, c .before .before .before .before .before .before .before .before .before .before .pre .0 .inner))
     slice-aggregate-inner-share-2
-    (λ c κs. search needs)
-    (λ c κs. search needs)
-    (λ c. search needs)
-    (λ c κs. search needs)
+    (λ c κs. tt)
+    (λ c κs. tt)
+    (λ c. let h = c .before .header-bytes in sym (headed (h .result) _ _ (h .ensures)))
+    (λ c κs. let h = c .before .before .header-bytes in omega (arith, headed (h .result) _ _ (h .ensures), c .before .before .before .before .before .before .before .before .before .before .before .before .before .before .before .before .pre .2))
     array-share-prefix-inner
     slice-aggregate-write-code
-    (λ c. search needs)
-    (λ c. search needs)
-    (λ c. search needs)
+    (λ c. omega (arith, c .before .before .before .before .before .before .before .before .before .before .before .before .before .before .frame-bytes .ensures))
+    (λ c. omega (arith, c .before .before .before .before .before .before .before .before .before .before .before .before .before .before .frame-bytes .ensures))
+    (λ c. omega (arith, c .before .before .before .before .before .before .before .before .before .before .before .before .before .before .frame-bytes .ensures, c .before .before .before .before .before .before .before .before .before .before .before .before .before .before .before .before .before .before .before .before .pre .2, c .before .before .out .given))
     write-code-requires
-    (λ c. search needs)
+    (λ c. c .before .out2 .given .1 ∙ c .before .before .before .before .before .before .out .given)
     returns)

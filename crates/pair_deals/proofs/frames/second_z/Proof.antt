@@ -3,7 +3,6 @@ use mathlib.Core.Path.{_≡_, sym, _∙_}
 use Prim.Native.Nat.{ℕ, _+_, _-_, _*_}
 use mathlib.Core.List.{List}
 use native.Mathlib.Omega.{arith}
-use borrow.Author.Needs.{needs}
 use lib.ListN.{length, take, drop}
 use lib.Seq.{take-at, length-take-le}
 use Rattle.linear_model.specs.Bits.{zeros, addBits}
@@ -13,7 +12,7 @@ use Rattle.pair_deals.proofs.frames.second_z.Statement.{statement}
 use Rattle.pair_deals.proofs.frames.second_z.Tie as tie
 
 slice-aggregate-add-bits : tie.Need-slice-aggregate-add-bits
-slice-aggregate-add-bits c = let s = c .before .before .before in sym (length-take-le (s .args .sizes .«key_bytes») (s .args .tape .now) (omega arith))
+slice-aggregate-add-bits c = let s = c .before .before .before in sym (length-take-le (s .args .sizes .«key_bytes») (s .args .tape .now) (omega (arith, s .pre .1)))
 
 slice-aggregate-add-bits-2 : tie.Need-slice-aggregate-add-bits-2
 slice-aggregate-add-bits-2 c = let s = c .before .before .before .before .before in sym (length-take-le (s .args .sizes .«key_bytes») (zeros 32) (s .pre .0 .key))
@@ -43,15 +42,20 @@ slice-aggregate-circulant-product-2 c =
 
 returns : tie.Need-returns
 returns c =
-    let s = c .before .before .before .before .before .before .before .before .before .before .before .before .before .before .before .before .before .before .before .before .before .before .before .before .before .before .before .before in
+    let added = c .before .before in
+    let summed = added .before .before .before .before .before in
+    let multiplied = summed .before .before .before .before .before in
+    let labels = multiplied .before .before .before .before .before in
+    let keys = labels .before .before .before .before .before in
+    let s = keys .before .before .before .before .before .before in
     let n = s .args .sizes .«key_bytes» in
     let m = s .args .sizes .«inner_bytes» in
     let e : length (take n (zeros 32)) ≡ n = length-take-le n (zeros 32) (s .pre .0 .key) in
-    let K = c .before .before .before .before .before .before .before .before .before .before .before .before .before .before .before .before .before .before .before .before .before .before .add-bits in
-    let X = c .before .before .before .before .before .before .before .before .before .before .before .before .before .before .before .before .before .add-bits2 in
-    let P = c .before .before .before .before .before .before .before .before .before .before .before .before .circulant-product in
-    let Z = c .before .before .before .before .before .before .before .add-bits-to in
-    let W = c .before .before .add-bits-to2 in
+    let K = keys .add-bits in
+    let X = labels .add-bits2 in
+    let P = multiplied .circulant-product in
+    let Z = summed .add-bits-to in
+    let W = added .add-bits-to2 in
     let p : length (P .last .1 .1 .0) ≡ m = P .kept .1 .1 .0 ∙ s .pre .2 in
     let q : length (Z .last .1 .0) ≡ m = Z .kept .1 .0 ∙ p in
     let t = s .args .tape .now in
@@ -67,39 +71,39 @@ pub second-z-spec : {M : Type 1} → statement M
 second-z-spec =
     tie.close
     (tie.spec
-    (λ c. search needs)
-    (λ c. search needs)
-    (λ c. search needs)
-    (λ c. search needs)
-    (λ c. search needs)
+    (λ c. omega (arith, c .before .before .pre .0 .key))
+    (λ c. omega (arith, c .before .before .pre .0 .key))
+    (λ c. omega (arith, c .before .before .pre .0 .key))
+    (λ c. omega (arith, c .before .before .pre .0 .key, c .before .before .pre .0 .inner))
+    (λ c. omega (arith, c .before .before .pre .0 .key, c .before .before .pre .0 .inner))
     slice-aggregate-add-bits
-    (λ c. search needs)
-    (λ c. search needs)
-    (λ c. search needs)
-    (λ c. search needs)
+    (λ c. omega arith)
+    (λ c. omega arith)
+    (λ c. omega (arith, c .before .before .before .pre .1))
+    (λ c. c .before .before .before .before .pre .0 .key)
     slice-aggregate-add-bits-2
-    (λ c κs. search needs)
-    (λ c. search needs)
-    (λ c. search needs)
-    (λ c. search needs)
-    (λ c. search needs)
-    (λ c. search needs)
-    (λ c. search needs)
-    (λ c. search needs)
+    (λ c κs. tt)
+    (λ c. omega arith)
+    (λ c. omega arith)
+    (λ c. omega (arith, c .before .before .before .before .before .before .before .pre .1))
+    (λ c. omega arith)
+    (λ c. omega arith)
+    (λ c. omega (arith, c .before .before .before .before .before .before .before .before .pre .1))
+    (λ c. c .before .before .before .before .before .before .before .before .before .pre .0 .key)
     slice-aggregate-add-bits-3
-    (λ c κs. search needs)
+    (λ c κs. tt)
     array-share-prefix-key-mask
     slice-aggregate-circulant-product
     array-share-prefix-label-mask
     slice-aggregate-circulant-product-2
-    (λ c κs. search needs)
-    (λ c. search needs)
-    (λ c. search needs)
-    (λ c. search needs)
-    (λ c κs. search needs)
-    (λ c. search needs)
-    (λ c. search needs)
-    (λ c. search needs)
-    (λ c κs. search needs)
-    (λ c. search needs)
+    (λ c κs. tt)
+    (λ c. omega arith)
+    (λ c. omega arith)
+    (λ c. omega (arith, c .before .before .before .before .before .before .before .before .before .before .before .before .before .before .before .before .before .before .pre .1))
+    (λ c κs. tt)
+    (λ c. omega arith)
+    (λ c. omega arith)
+    (λ c. omega (arith, c .before .before .before .before .before .before .before .before .before .before .before .before .before .before .before .before .before .before .before .before .before .before .before .pre .1))
+    (λ c κs. tt)
+    (λ c. c .before .out3 .given ∙ c .before .before .before .before .before .before .out2 .given ∙ c .before .before .before .before .before .before .before .before .before .before .before .out .given)
     returns)

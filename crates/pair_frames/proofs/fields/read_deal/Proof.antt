@@ -1,9 +1,8 @@
 -- `pair_frames::fields::read_deal` meets its contract: each part is a field of the deal, in the front of its room.
-use mathlib.Core.Path.{_≡_}
+use mathlib.Core.Path.{_≡_, refl}
 use mathlib.Core.List.{List}
 use Prim.Native.Nat.{ℕ, _+_, _*_}
 use native.Mathlib.Omega.{arith}
-use borrow.Author.Needs.{needs}
 use lib.Dec.{lit<}
 use Rattle.pair_model.specs.Tape.{dealLayout}
 use Rattle.pair_frames.specs.Schemes.{schemeOf}
@@ -47,19 +46,19 @@ pub read-deal-spec : {M : Type 1} → statement M
 read-deal-spec =
     tie.close
     (tie.spec
-    (λ c. search needs)
-    (λ c κs. search needs)
-    (λ c. search needs)
-    (λ c. search needs)
-    (λ c κs. search needs)
-    (λ c. search needs)
-    (λ c. search needs)
-    (λ c. search needs)
-    (λ c κs. search needs)
-    (λ c. search needs)
-    (λ c. search needs)
-    (λ c. search needs)
-    (λ c. search needs)
-    (λ c. search needs)
-    (λ c κs. search needs)
+    (λ c. refl)
+    (λ c κs. (omega (arith, c .before .before .pre .1), omega (arith, c .before .before .pre .0 .key)))
+    (λ c. let s = c .before .before .before .before in omega (arith, s .pre .1, s .good .1 .0 .0))
+    (λ c. refl)
+    (λ c κs. let s = c .before .before .before .before .before in (omega (arith, s .pre .1), omega (arith, s .pre .0 .key)))
+    (λ c. omega (arith, c .before .before .before .before .before .before .before .pre .0 .key))
+    (λ c. let s = c .before .before .before .before .before .before .before in omega (arith, s .pre .1, s .good .1 .0 .0))
+    (λ c. refl)
+    (λ c κs. let s = c .before .before .before .before .before .before .before .before in (omega (arith, s .pre .1), omega (arith, s .pre .0 .inner)))
+    (λ c. omega (arith, c .before .before .before .before .before .before .before .before .before .before .pre .0 .key))
+    (λ c. let s = c .before .before .before .before .before .before .before .before .before .before in omega (arith, s .pre .1, s .good .1 .0 .0))
+    (λ c. let s = c .before .before .before .before .before .before .before .before .before .before in omega (arith, s .pre .1, s .good .1 .0 .0))
+    (λ c. omega (arith, c .before .before .before .before .before .before .before .before .before .before .pre .0 .inner))
+    (λ c. refl)
+    (λ c κs. let s = c .before .before .before .before .before .before .before .before .before .before .before in (omega (arith, s .pre .1), omega (arith, s .pre .0 .inner)))
     returns)

@@ -1,16 +1,15 @@
 -- `pair_frames::fields::write_open_frame` meets its contract: two sums in place behind the header.
-use mathlib.Core.Path.{_≡_, ap, _∙_}
-use mathlib.Core.List.{List, [], _∷_, _++_}
-use Prim.Native.Nat.{ℕ, _+_}
+use mathlib.Core.Path.{_≡_, sym, _∙_}
+use mathlib.Core.List.{[], _∷_, _++_}
+use Prim.Native.Nat.{_+_}
 use native.Mathlib.Omega.{arith}
-use borrow.Author.Needs.{needs}
-use lib.ListN.{length, drop}
+use lib.ListN.{drop}
 use Rattle.linear_model.specs.Bits.{addBits}
 use Rattle.pair_model.specs.Scheme.{concat}
 use Rattle.pair_model.specs.Frame.{openKind, header, frame, frameBytes}
 use Rattle.pair_model.proofs.Internal.FieldCopies.{fields-none, fields-more, fields-front}
 use Rattle.pair_frames.specs.Schemes.{schemeOf}
-use Rattle.pair_frames.proofs.Parts.{sum-part}
+use Rattle.pair_frames.proofs.Parts.{headed, sum-part}
 use Rattle.pair_frames.proofs.fields.write_open_frame.Statement.{statement}
 use Rattle.pair_frames.proofs.fields.write_open_frame.Tie as tie
 
@@ -25,7 +24,7 @@ returns c =
     let a = s .args in
     let n = a .sizes .«key_bytes» in
     let o = a .out .now in
-    let l : length (h .header-bytes .result) ≡ 6 = ap length (h .header-bytes .ensures) in
+    let l = headed (h .header-bytes .result) _ _ (h .header-bytes .ensures) in
     let f0 = fields-more (fields-none {d = o}) 6 (h .header-bytes .result) _ l (omega (arith, s .pre .1)) (p0 .put .ensures) in
     let f1 = sum-part f0 n (omega (arith, s .pre .1)) (a .key .now) (a .key-mask .now) _ (p1 .add-bits .ensures) in
     let f2 = sum-part f1 n (omega (arith, s .pre .1)) (a .label .now) (a .label-mask .now) _ (p2 .add-bits2 .ensures) in
@@ -37,18 +36,18 @@ pub write-open-frame-spec : {M : Type 1} → statement M
 write-open-frame-spec =
     tie.close
     (tie.spec
-    (λ c κs. search needs)
-    (λ c. search needs)
-    (λ c κs. search needs)
-    (λ c. search needs)
-    (λ c. search needs)
-    (λ c. search needs)
-    (λ c. search needs)
-    (λ c. search needs)
-    (λ c κs. search needs)
-    (λ c. search needs)
-    (λ c. search needs)
-    (λ c. search needs)
-    (λ c κs. search needs)
-    (λ c. search needs)
+    (λ c κs. tt)
+    (λ c. let h = c .before .header-bytes in sym (headed (h .result) _ _ (h .ensures)))
+    (λ c κs. let h = c .before .before .header-bytes in omega (arith, headed (h .result) _ _ (h .ensures), c .before .before .before .before .before .before .before .before .pre .1))
+    (λ c. omega (arith, c .before .before .before .before .before .before .before .before .before .before .before .before .pre .0 .key))
+    (λ c. omega (arith, c .before .before .before .before .before .before .before .before .before .before .before .before .before .pre .0 .key))
+    (λ c. omega arith)
+    (λ c. omega arith)
+    (λ c. omega (arith, c .before .before .before .before .before .before .before .before .before .before .before .before .before .pre .1, c .before .before .before .out .given))
+    (λ c κs. tt)
+    (λ c. omega arith)
+    (λ c. omega arith)
+    (λ c. omega (arith, c .before .before .before .before .before .before .before .before .before .before .before .before .before .before .before .before .before .pre .1, c .before .out2 .given .1, c .before .before .before .before .before .before .before .out .given))
+    (λ c κs. tt)
+    (λ c. c .before .out3 .given .1 ∙ c .before .before .before .before .before .out2 .given .1 ∙ c .before .before .before .before .before .before .before .before .before .before .before .out .given)
     returns)

@@ -1,6 +1,6 @@
 -- `pair_frames::frame::read_header` meets its contract: each return rewrites with the tests that led there.
 use mathlib.Core.Path.{sym, _∙_}
-use borrow.Author.Needs.{needs}
+use native.Mathlib.Omega.{arith}
 use borrow.Author.Tests.{lt-ltb, le-ltb, eq-eqb, ne-eqb}
 use Rattle.pair_model.specs.Header.{readHeader}
 use Rattle.pair_frames.proofs.frame.read_header.Statement.{statement}
@@ -51,12 +51,12 @@ read-header-spec =
     tie.close
     (tie.spec
     returns
-    (λ c. search needs)
+    (λ c. omega (arith, c .before .if1 .left))
     returns-2
     returns-3
-    (λ c κs. search needs)
+    (λ c κs. c .before .before .before .before .before .pre)
     returns-4
-    (λ c. search needs)
-    (λ c κs. search needs)
-    (λ c. search needs)
+    (λ c. omega (arith, c .before .before .before .before .before .before .if1 .left))
+    (λ c κs. c .before .before .before .before .before .before .if1 .left)
+    (λ c. c .before .before .before .before .before .before .before .if1 .left)
     returns-5)

@@ -1,5 +1,5 @@
 -- `pair_frames::frame::write_frame` meets its contract. The body is copied behind the header.
-use mathlib.Core.Path.{_≡_, sym, ap, _∙_}
+use mathlib.Core.Path.{sym, ap, _∙_}
 use mathlib.Core.List.{_++_}
 use Prim.Native.Nat.{ℕ, _+_}
 use native.Mathlib.Omega.{arith}
@@ -7,6 +7,7 @@ use borrow.Author.Needs.{needs}
 use lib.ListN.{length, drop, length-append}
 use Rattle.pair_model.specs.Frame.{header, frame}
 use Rattle.linear_model.proofs.Copies.{copied-first, copied-more}
+use Rattle.pair_frames.proofs.Parts.{headed}
 use Rattle.pair_frames.proofs.frame.write_frame.Statement.{statement}
 use Rattle.pair_frames.proofs.frame.write_frame.Tie as tie
 
@@ -20,7 +21,7 @@ returns c =
     let d = s .args .out .now in
     let body = s .args .body .now in
     let h = head .header-bytes .result in
-    let l : length h ≡ 6 = ap length (head .header-bytes .ensures) in
+    let l = headed h _ _ (head .header-bytes .ensures) in
     let f = copied-first h _ (omega (arith, s .pre)) (one .put .ensures) in
     copied-more 6 h body _ _ f (sym l) (omega (arith, s .pre)) (two .put2 .ensures) .is
     ∙ (λ i. head .header-bytes .ensures i ++ body ++ drop ((length-append h body ∙ ap (λ (k : ℕ). k + length body) l) i) d)

@@ -1,6 +1,5 @@
 -- `pair_sampler::drawing::draw_trits` meets its contract: what four pairs at a time have left is read on.
-use native.Mathlib.Omega.{arith}
-use borrow.Author.Needs.{needs}
+use mathlib.Core.Path.{_∙_}
 use Rattle.pair_sampler.proofs.drawing.draw_trits.Statement.{statement}
 use Rattle.pair_sampler.proofs.drawing.draw_trits.Tie as tie
 
@@ -15,4 +14,4 @@ returns c =
     two .draw-pairs .ensures _ (two .before .before .before .before .draw-fours .ensures .1)
 
 pub draw-trits-spec : {M : Type 1} → statement M
-draw-trits-spec = tie.close (tie.spec (λ c κs. search needs) draw-pairs-requires (λ c. search needs) returns)
+draw-trits-spec = tie.close (tie.spec (λ c κs. c .before .before .before .pre) draw-pairs-requires (λ c. c .before .trits2 .given ∙ c .before .before .before .before .before .trits .given) returns)

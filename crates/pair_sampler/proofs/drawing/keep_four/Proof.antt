@@ -1,6 +1,7 @@
 -- `pair_sampler::drawing::keep_four` meets its contract: four stores, each where the one before has left off.
-use borrow.Author.Needs.{needs}
-use Rattle.pair_sampler.proofs.Draws.{kept-four}
+use mathlib.Core.Path.{_∙_}
+use native.Mathlib.Omega.{arith}
+use Rattle.pair_sampler.proofs.Draws.{counted-one, kept-four}
 use Rattle.pair_sampler.proofs.drawing.keep_four.Statement.{statement}
 use Rattle.pair_sampler.proofs.drawing.keep_four.Tie as tie
 
@@ -17,9 +18,9 @@ pub keep-four-spec : {M : Type 1} → statement M
 keep-four-spec =
     tie.close
     (tie.spec
-    (λ c κs. search needs)
-    (λ c κs. search needs)
-    (λ c κs. search needs)
-    (λ c κs. search needs)
-    (λ c. search needs)
+    (λ c κs. (omega (arith, c .before .before .pre), omega arith))
+    (λ c κs. (omega (arith, c .before .before .before .before .before .before .pre, counted-one _ _ _ (c .before .before .before .keep .ensures .1), c .before .before .trits .given), omega arith))
+    (λ c κs. (omega (arith, c .before .before .before .before .before .before .before .before .before .before .pre, counted-one _ _ _ (c .before .before .before .keep2 .ensures .1), counted-one _ _ _ (c .before .before .before .before .before .before .before .keep .ensures .1), c .before .before .trits2 .given, c .before .before .before .before .before .before .trits .given), omega arith))
+    (λ c κs. (omega (arith, c .before .before .before .before .before .before .before .before .before .before .before .before .before .before .pre, counted-one _ _ _ (c .before .before .before .keep3 .ensures .1), counted-one _ _ _ (c .before .before .before .before .before .before .before .keep2 .ensures .1), counted-one _ _ _ (c .before .before .before .before .before .before .before .before .before .before .before .keep .ensures .1), c .before .before .trits3 .given, c .before .before .before .before .before .before .trits2 .given, c .before .before .before .before .before .before .before .before .before .before .trits .given), omega arith))
+    (λ c. c .before .trits4 .given ∙ c .before .before .before .before .before .trits3 .given ∙ c .before .before .before .before .before .before .before .before .before .trits2 .given ∙ c .before .before .before .before .before .before .before .before .before .before .before .before .before .trits .given)
     returns)

@@ -1,6 +1,5 @@
 -- `pair_units::begin::begin` meets its contract: at the sizes of document 01 the strings fill their rooms.
 use mathlib.Core.Path.{sym, ap, _∙_}
-use borrow.Author.Needs.{needs}
 use Rattle.pair_frames.proofs.Bases.{base-fits}
 use Rattle.pair_model.specs.Base.{base}
 use Rattle.pair_model.proofs.Theorem.Main.{begins, base-demand3}
@@ -17,4 +16,4 @@ returns c =
     )
 
 pub begin-spec : {M : Type 1} → statement M
-begin-spec = tie.close (tie.spec (λ c κs. search needs) returns)
+begin-spec = tie.close (tie.spec (λ c κs. base-fits) returns)

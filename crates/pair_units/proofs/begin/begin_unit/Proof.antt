@@ -2,7 +2,6 @@
 use mathlib.Core.Path.{_≡_, sym, ap, _∙_}
 use Prim.Native.Nat.{ℕ, _%_}
 use native.Mathlib.Omega.{arith}
-use borrow.Author.Needs.{needs}
 use Rattle.pair_frames.specs.Schemes.{schemeOf}
 use Rattle.pair_model.specs.Frame.{parameters}
 use Rattle.pair_model.specs.Unit.{begun}
@@ -42,9 +41,9 @@ pub begin-unit-spec : {M : Type 1} → statement M
 begin-unit-spec =
     tie.close
     (tie.spec
-    (λ c κs. search needs)
-    (λ c κs. search needs)
+    (λ c κs. tt)
+    (λ c κs. c .before .before .before .before .pre)
     returns
-    (λ c. search needs)
+    (λ c. omega arith)
     with-halves-requires
     returns-2)

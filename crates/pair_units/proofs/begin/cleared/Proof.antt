@@ -1,10 +1,7 @@
 -- `pair_units::begin::cleared` meets its contract: both halves are zeros too.
-use mathlib.Core.Path.{_≡_, sym, ap, _∙_}
+use mathlib.Core.Path.{sym, ap, _∙_}
 use mathlib.Core.List.{List}
 use Prim.Native.Nat.{ℕ}
-use native.Mathlib.Omega.{arith}
-use borrow.Author.Needs.{needs}
-use lib.ListN.{length}
 use lib.Seq.{length-take-le}
 use Rattle.linear_model.specs.Bits.{zeros}
 use Rattle.pair_frames.specs.Headers.{parametersIn}
@@ -31,4 +28,4 @@ returns c =
 
 pub cleared-spec : {M : Type 1} → statement M
 cleared-spec =
-    tie.close (tie.spec (λ c. search needs) slice-aggregate-half with-halves-requires returns)
+    tie.close (tie.spec (λ c. c .pre .key) slice-aggregate-half with-halves-requires returns)

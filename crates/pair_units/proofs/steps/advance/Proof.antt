@@ -2,7 +2,6 @@
 use mathlib.Core.Path.{_≡_, refl, sym, ap, _∙_, subst}
 use Prim.Native.Nat.{ℕ}
 use native.Mathlib.Omega.{arith}
-use borrow.Author.Needs.{needs}
 use lib.ListN.{length}
 use Rattle.numbers.specs.Number.{atFront}
 use Rattle.pair_frames.specs.Schemes.{schemeOf}
@@ -65,7 +64,7 @@ take-mask-requires c κs =
     let S = schemeOf (a .sizes) in
     let u = stateAt (a .sizes) (a .u) in
     let h = fits S (u .parameters) (u .stage) (a .f .now) (files (a .file .now)) (length (a .out .now)) (s .pre .1) in
-    let m : u .stage ≡ 3 = omega (arith, h .low, h .high) in
+    let m : u .stage ≡ 3 = omega (arith, h .low, h .high, c .before .before .if1 .left, c .before .if2 .left) in
     (s .pre .0, h .frame-length ∙ ap (frameBytes S) m, omega (arith, h .room, s .pre .0 .share), subst (λ (kind : ℕ). length (stepReading S kind .content (files (a .file .now))) ≡ stepReading S kind .bytes) m (h .read-length))
 
 returns-3 : tie.Need-returns-3
@@ -77,7 +76,7 @@ returns-3 c =
     let u = stateAt (a .sizes) (a .u) in
     let b = bodyOf (a .f .now) in
     let h = fits S (u .parameters) (u .stage) (a .f .now) lent (length (a .out .now)) (s .pre .1) in
-    let m : u .stage ≡ 3 = omega (arith, h .low, h .high) in
+    let m : u .stage ≡ 3 = omega (arith, h .low, h .high, c .before .before .before .before .before .before .if1 .left, c .before .before .before .before .before .if2 .left) in
     let e = sym (advance-mask S u b lent m) in
     let t = c .before .before .before .take-mask .ensures in (
       c .frame-bytes3 .ensures ∙ share-length S u b lent ∙ ap (λ (s : Stepped). length (s .written)) e,
@@ -89,14 +88,14 @@ advance-spec =
     tie.close
     (tie.spec
     take-deal-requires
-    (λ c κs. search needs)
-    (λ c. search needs)
+    (λ c κs. c .before .before .before .before .before .before .before .before .pre .0)
+    (λ c. c .before .before .out .given)
     returns
     take-open-requires
-    (λ c κs. search needs)
-    (λ c. search needs)
+    (λ c κs. c .before .before .before .before .before .before .before .before .before .pre .0)
+    (λ c. c .before .before .out2 .given)
     returns-2
     take-mask-requires
-    (λ c κs. search needs)
-    (λ c. search needs)
+    (λ c κs. c .before .before .before .before .before .before .before .before .before .pre .0)
+    (λ c. c .before .before .out3 .given)
     returns-3)

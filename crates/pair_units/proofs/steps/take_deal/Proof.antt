@@ -1,12 +1,11 @@
 -- `pair_units::steps::take_deal` meets its contract: the open frame has the halves under the deal's masks.
 use mathlib.Core.Path.{ap, _∙_}
-use mathlib.Core.List.{List, [], _∷_, _++_}
+use mathlib.Core.List.{[], _∷_, _++_}
 use Prim.Native.Nat.{ℕ, _+_}
 use native.Mathlib.Omega.{arith}
-use borrow.Author.Needs.{needs}
 use lib.Dec.{lit<}
-use lib.ListN.{length, take, drop}
-use Rattle.linear_model.specs.Bits.{zeros, addBits}
+use lib.ListN.{drop}
+use Rattle.linear_model.specs.Bits.{addBits}
 use Rattle.pair_frames.specs.Headers.{parametersIn}
 use Rattle.pair_frames.specs.Schemes.{schemeOf}
 use Rattle.pair_frames.proofs.Parts.{field-part}
@@ -66,19 +65,19 @@ pub take-deal-spec : {M : Type 1} → statement M
 take-deal-spec =
     tie.close
     (tie.spec
-    (λ c. search needs)
-    (λ c. search needs)
-    (λ c. search needs)
-    (λ c. search needs)
-    (λ c. search needs)
-    (λ c. search needs)
-    (λ c. search needs)
-    (λ c. search needs)
+    (λ c. omega (arith, c .before .before .pre .0 .key))
+    (λ c. omega arith)
+    (λ c. omega arith)
+    (λ c. omega (arith, c .before .before .before .before .before .pre .1))
+    (λ c. omega (arith, c .before .before .before .before .before .before .pre .0 .key))
+    (λ c. omega arith)
+    (λ c. omega arith)
+    (λ c. omega (arith, c .before .before .before .before .before .before .pre .1))
     array-share-prefix-key
     slice-aggregate-write-open-frame
     array-share-prefix-label
     slice-aggregate-write-open-frame-2
-    (λ c κs. search needs)
-    (λ c κs. search needs)
-    (λ c. search needs)
+    (λ c κs. let s = c .before .before .before .before .before .before .before .before .before .before in (s .pre .0, s .pre .2))
+    (λ c κs. let s = c .before .before .before .before .before .before .before .before .before .before .before .before .before in (s .pre .0, omega (arith, s .pre .1)))
+    (λ c. c .before .before .before .before .before .before .out .given)
     returns)

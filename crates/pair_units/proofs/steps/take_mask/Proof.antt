@@ -3,7 +3,6 @@ use mathlib.Core.Path.{_≡_, ap, _∙_}
 use mathlib.Core.List.{List}
 use Prim.Native.Nat.{ℕ, _+_, _-_, _*_}
 use native.Mathlib.Omega.{arith}
-use borrow.Author.Needs.{needs}
 use lib.ListN.{take, drop, length-drop}
 use lib.Seq.{take-all}
 use Rattle.linear_model.specs.Bits.{addBits}
@@ -51,14 +50,14 @@ take-mask-spec =
     (tie.spec
     array-share-prefix-own-mask
     slice-aggregate-write-share-frame
-    (λ c. search needs)
-    (λ c. search needs)
-    (λ c. search needs)
-    (λ c. search needs)
-    (λ c. search needs)
+    (λ c. omega (arith, c .before .before .before .before .before .before .before .pre .0 .inner))
+    (λ c. omega arith)
+    (λ c. omega arith)
+    (λ c. omega (arith, c .before .before .before .before .before .before .before .pre .1))
+    (λ c. omega (arith, c .before .before .before .before .before .before .before .before .pre .0 .inner))
     array-share-prefix-r
     slice-aggregate-write-share-frame-2
-    (λ c κs. search needs)
-    (λ c κs. search needs)
-    (λ c. search needs)
+    (λ c κs. let s = c .before .before .before .before .before .before .before .before .before .before in (s .pre .0, s .pre .3, s .pre .2))
+    (λ c κs. c .before .before .before .before .before .before .before .before .before .before .before .before .before .pre .0)
+    (λ c. c .before .before .out .given)
     returns)

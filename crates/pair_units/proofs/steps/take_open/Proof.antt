@@ -3,7 +3,6 @@ use mathlib.Core.Path.{sym, ap, _∙_}
 use mathlib.Core.List.{_++_}
 use Prim.Native.Nat.{ℕ, _+_}
 use native.Mathlib.Omega.{arith}
-use borrow.Author.Needs.{needs}
 use lib.ListN.{drop}
 use lib.Seq.{length-take-le}
 use Rattle.linear_model.specs.Bits.{zeros}
@@ -104,11 +103,11 @@ take-open-spec =
     slice-aggregate-write-own-mask-4
     array-share-prefix-z
     slice-aggregate-write-own-mask-5
-    (λ c. search needs)
+    (λ c. c .before .before .before .before .before .before .before .before .before .before .before .before .before .pre .0 .inner)
     slice-aggregate-write-own-mask-6
     write-own-mask-requires
     array-share-prefix-own-mask
     slice-aggregate-write-frame
     write-frame-requires
-    (λ c. search needs)
+    (λ c. c .before .out .given)
     returns)

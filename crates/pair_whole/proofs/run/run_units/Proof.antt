@@ -1,11 +1,10 @@
 -- `pair_whole::run::run_units` meets its contract: its steps are those of a run in order, and its sum the join's.
-use mathlib.Core.Path.{_≡_, ap, _∙_}
+use mathlib.Core.Path.{sym, ap, _∙_}
 use mathlib.Core.List.{List}
 use Prim.Native.Nat.{ℕ}
 use native.Mathlib.Omega.{arith}
-use borrow.Author.Needs.{needs}
 use native.Mathlib.Nat.{le-refl}
-use lib.Dec.{lit<}
+use lib.Dec.{lit<, lit≤}
 use lib.ListN.{length}
 use Rattle.numbers.specs.Number.{output}
 use Rattle.pair_frames.proofs.Bases.{base-fits}
@@ -37,9 +36,7 @@ add-shares-requires : tie.Need-add-shares-requires
 add-shares-requires c κs =
     let s0 = c .before .before .before .before .share-frame in
     let s1 = c .before .before .before .share-frame2 in
-    let l0 : length (s0 .result) ≡ 28 = omega arith in
-    let l1 : length (s1 .result) ≡ 28 = omega arith in
-    (base-fits, l0, l1, c .before .before .before .before .before .before .before .before .before .before .before .before .before .before .pre .room-is)
+    (base-fits, s0 .ok .1 .0 .1, s1 .ok .1 .0 .1, c .before .before .before .before .before .before .before .before .before .before .before .before .before .before .pre .room-is)
 
 returns : tie.Need-returns
 returns c =
@@ -63,15 +60,15 @@ pub run-units-spec : {M : Type 1} → statement M
 run-units-spec =
     tie.close
     (tie.spec
-    (λ c. search needs)
-    (λ c. search needs)
-    (λ c. search needs)
+    (λ c. lit≤ tt)
+    (λ c. lit≤ tt)
+    (λ c. omega (arith, c .before .before .pre .long))
     first-round-requires
     exchange-requires
-    (λ c κs. search needs)
-    (λ c κs. search needs)
-    (λ c. search needs)
-    (λ c. search needs)
+    (λ c κs. c .before .before .before .before .before .before .file .given .2)
+    (λ c κs. c .before .before .before .before .before .before .before .file .given .2)
+    (λ c. sym (c .before .before .share-frame .ok .1 .0 .1))
+    (λ c. sym (c .before .before .share-frame2 .ok .1 .0 .1))
     add-shares-requires
-    (λ c. search needs)
+    (λ c. c .before .out .given)
     returns)

@@ -1,11 +1,10 @@
 -- `protocol::units::pair_begin` meets its contract: a slice of its length holds what the beginning gave, and stands for it.
-use mathlib.Core.Path.{_≡_, refl, sym, ap, _∙_}
+use mathlib.Core.Path.{refl, sym, ap, _∙_}
 use native.Mathlib.Omega.{arith}
 use borrow.Author.Needs.{needs}
 use Rattle.pair_frames.proofs.Bases.{base-fits}
 use Rattle.pair_model.specs.Base.{base}
 use Rattle.pair_model.specs.Frame.{parameters}
-use Rattle.pair_model.specs.Unit.{begin}
 use Rattle.pair_model.specs.StateSlice.{encodeState, decodeState}
 use Rattle.pair_model.proofs.Internal.Begins.{begin-result, begin-accepted, begin-refused}
 use Rattle.pair_model.proofs.Internal.Encodings.{begin-short, begin-long}
@@ -23,16 +22,16 @@ returns c =
 
 returns-2 : tie.Need-returns-2
 returns-2 c =
-    let g = c .before .before .before .before .before in
-    let k = g .before .before in
+    let g = c .before .before in
+    let k = g .before .before .before in
     let a = k .before .before .before .args in
     let t = parameters (a .side) (a .session) in
     let key = a .key .now in
     let label = a .label .now in
-    let long = g .before .if1 .left in
-    let b = begin-long base _ long t key label in
-    let number = g .begin-unit .ensures .0 in
-    let held : _ ≡ encodeState (begin base t key label .next) = c .before .before .encode .ensures ∙ ap encodeState (g .begin-unit .ensures .1) in
+    let long = g .before .before .if1 .left in
+    let b = begin-long base (a .state .now) long t key label in
+    let number = g .begin-slice .ensures .0 in
+    let held = g .begin-slice .ensures .1 in
     let is = number ∙ begin-result base t key label in
     let next = ap (decodeState base) (held ∙ b .1) ∙ decoded-begun base _ long t key label (record { session = omega arith }) (λ i. k .before .before .shared-slice-known .given i .fits) (λ i. k .before .shared-slice-known2 .given i .fits) in (
       number ∙ b .0,
@@ -49,4 +48,4 @@ returns-2 c =
     )
 
 pub pair-begin-spec : {M : Type 1} → statement M
-pair-begin-spec = tie.close (tie.spec returns (λ c κs. base-fits) (λ c κs. (base-fits, c .before .before .before .if1 .left)) (λ c. search needs) returns-2)
+pair-begin-spec = tie.close (tie.spec returns (λ c κs. (base-fits, c .before .if1 .left)) (λ c. search needs) returns-2)

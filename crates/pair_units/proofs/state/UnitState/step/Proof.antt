@@ -1,6 +1,5 @@
 -- `UnitState::step` meets its contract: its number decides. Theorem and evidence are the model's.
 use mathlib.Core.Path.{sym, ap, _∙_}
-use borrow.Author.Needs.{needs}
 use lib.ListN.{length}
 use Rattle.numbers.specs.Number.{atFront}
 use Rattle.pair_frames.proofs.Bases.{base-fits}
@@ -61,4 +60,4 @@ returns-2 c =
 
 pub step-spec : {M : Type 1} → statement M
 step-spec =
-    tie.close (tie.spec step-number-requires returns advance-requires (λ c. search needs) returns-2)
+    tie.close (tie.spec step-number-requires returns advance-requires (λ c. c .before .before .out .given) returns-2)

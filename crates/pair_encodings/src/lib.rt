@@ -1,2 +1,0 @@
-// A unit's state as the bytes of a slice.
-pub mod encodings;

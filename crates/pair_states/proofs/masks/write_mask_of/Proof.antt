@@ -1,0 +1,67 @@
+-- `pair_states::masks::write_mask_of` meets its contract: each part that is lent is a field of the state.
+use mathlib.Core.Path.{_≡_, _∙_}
+use mathlib.Core.List.{List}
+use Prim.Native.Nat.{ℕ}
+use borrow.Author.Needs.{needs}
+use Rattle.linear_model.specs.Bits.{addBits}
+use Rattle.pair_frames.specs.Schemes.{schemeOf}
+use Rattle.pair_model.specs.Scheme.{noFiles, Scheme, field}
+use Rattle.pair_model.specs.Frame.{sideOf, bodyOf, openLayout}
+use Rattle.pair_model.specs.Unit.{maskOf, takeOpen}
+use Rattle.pair_model.specs.StateSlice.{secretsLayout, decodeState}
+use Rattle.pair_states.proofs.Places.{key-held, label-held, key-mask-held, label-mask-held, z-held}
+use Rattle.pair_states.proofs.masks.write_mask_of.Statement.{statement}
+use Rattle.pair_states.proofs.masks.write_mask_of.Tie as tie
+
+-- the own mask of strings that are the state's
+own-mask : (S : Scheme) (s f : List ℕ) (side : ℕ) (key label K̃ x̃ z : List ℕ) → side ≡ sideOf s
+    → key ≡ field (secretsLayout S) 0 (bodyOf s) → label ≡ field (secretsLayout S) 1 (bodyOf s)
+    → K̃ ≡ field (secretsLayout S) 2 (bodyOf s) → x̃ ≡ field (secretsLayout S) 3 (bodyOf s) → z ≡ field (secretsLayout S) 4 (bodyOf s)
+    → maskOf S noFiles side
+    (addBits (S .keyBytes) (addBits (S .keyBytes) key K̃) (field (openLayout S) 0 (bodyOf f)))
+    (addBits (S .keyBytes) (addBits (S .keyBytes) label x̃) (field (openLayout S) 1 (bodyOf f)))
+    K̃ x̃ z
+    ≡ takeOpen S (decodeState S s) (bodyOf f) noFiles .next .secrets .ownMask
+unfolding takeOpen decodeState
+own-mask S s f side key label K̃ x̃ z a b c d e g =
+    λ i. maskOf S noFiles (a i)
+    (addBits (S .keyBytes) (addBits (S .keyBytes) (b i) (d i)) (field (openLayout S) 0 (bodyOf f)))
+    (addBits (S .keyBytes) (addBits (S .keyBytes) (c i) (e i)) (field (openLayout S) 1 (bodyOf f)))
+    (d i) (e i) (g i)
+
+returns : tie.Need-returns
+returns c =
+    let s = c .before .before .before .before .before .before .before .before .before .before .before .before .before in
+    let a = s .args in
+    let S = schemeOf (a .sizes) in
+    let u = a .state .now in
+    c .before .before .write-own-mask .ensures
+    ∙ own-mask S u (a .f .now) (a .side) _ _ _ _ _ (s .pre .2) (key-held S u) (label-held S u) (key-mask-held S u) (label-mask-held S u) (z-held S u)
+
+pub write-mask-of-spec : {M : Type 1} → statement M
+write-mask-of-spec =
+    tie.close
+    (tie.spec
+    (λ c. search needs)
+    (λ c. search needs)
+    (λ c. search needs)
+    (λ c. search needs)
+    (λ c. search needs)
+    (λ c. search needs)
+    (λ c. search needs)
+    (λ c. search needs)
+    (λ c. search needs)
+    (λ c. search needs)
+    (λ c. search needs)
+    (λ c. search needs)
+    (λ c. search needs)
+    (λ c. search needs)
+    (λ c. search needs)
+    (λ c. search needs)
+    (λ c. search needs)
+    (λ c. search needs)
+    (λ c. search needs)
+    (λ c. search needs)
+    (λ c κs. search needs)
+    (λ c. search needs)
+    returns)
