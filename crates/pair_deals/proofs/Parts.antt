@@ -15,7 +15,7 @@ use Rattle.linear_model.proofs.Vectors.{bytes-subtract}
 use Rattle.numbers.specs.Number.{output}
 use Rattle.pair_model.specs.Scheme.{noFiles, Side, side0, side1, concat}
 use Rattle.pair_model.specs.Tape.{tapeBytes, K̃, x̃, w̃, z, r, r0, deal}
-use Rattle.pair_model.specs.Frame.{sharedParameters, parametersOf, dealKind, header, frame, frameBytes}
+use Rattle.pair_model.specs.Frame.{sharedParameters, parametersOf, dealKind, header, frame, frameBytes, headerBytes}
 use Rattle.pair_model.specs.Dealer.{dealFrame, dealt, dealtBytes}
 use Rattle.pair_model.proofs.Internal.Fields.{tape-K̃0, tape-K̃1, tape-x̃0, tape-x̃1, tape-w̃, tape-z0, tape-r0}
 use Rattle.pair_model.proofs.Internal.Deals.{fit-r0, deal-written}
@@ -100,7 +100,7 @@ module _ (sizes : Sizes) (t : List ℕ) where
   first-r = let e : 4 * key sizes + inner sizes + inner sizes ≡ 4 * key sizes + 2 * inner sizes = omega arith in ap (λ (k : ℕ). take (2 * inner sizes) (drop k t)) e ∙ tape-r0 (schemeOf sizes) t
 
   -- a frame of its header and four fields
-  deal-fields : (session : ℕ) (i : Side) (d o h a b c v : List ℕ) → FieldsCopied (6 + key sizes + key sizes + inner sizes + 2 * inner sizes) (h ∷ a ∷ b ∷ c ∷ v ∷ []) d o
+  deal-fields : (session : ℕ) (i : Side) (d o h a b c v : List ℕ) → FieldsCopied (headerBytes + key sizes + key sizes + inner sizes + 2 * inner sizes) (h ∷ a ∷ b ∷ c ∷ v ∷ []) d o
       → h ≡ header dealKind (parametersOf i (sharedParameters session)) → a ≡ K̃ (schemeOf sizes) t i → b ≡ x̃ (schemeOf sizes) t i
       → c ≡ z (schemeOf sizes) noFiles t i → v ≡ r (schemeOf sizes) t i
       → o ≡ dealFrame (schemeOf sizes) (sharedParameters session) noFiles t i ++ drop (frameBytes (schemeOf sizes) dealKind) d
@@ -108,7 +108,7 @@ module _ (sizes : Sizes) (t : List ℕ) where
   deal-fields session i d o h a b c v f eh ea eb ec ev =
       let n = key sizes in
       let m = inner sizes in
-      let q : 6 + n + n + m + 2 * m ≡ frameBytes (schemeOf sizes) dealKind = omega arith in
+      let q : headerBytes + n + n + m + 2 * m ≡ frameBytes (schemeOf sizes) dealKind = omega arith in
       fields-front f ∙ (λ j. concat (eh j ∷ ea j ∷ eb j ∷ ec j ∷ ev j ∷ []) ++ drop (q j) d)
 
   -- k bytes of the tape
@@ -117,21 +117,21 @@ module _ (sizes : Sizes) (t : List ℕ) where
 
   module _ (session : ℕ) (d h : List ℕ) (l : length t ≡ tapeBytes (schemeOf sizes)) (room : frameBytes (schemeOf sizes) dealKind ≤ length d) (i : Side) (is : h ≡ header dealKind (parametersOf i (sharedParameters session))) where
     -- header, K̃i and x̃i in front
-    front-fields : (j k : ℕ) (o₀ o₁ o₂ : List ℕ) → j + key sizes ≤ length t → k + key sizes ≤ length t → o₀ ≡ pasted 0 h d → o₁ ≡ pasted 6 (take (key sizes) (drop j t)) o₀
-        → o₂ ≡ pasted (6 + key sizes) (take (key sizes) (drop k t)) o₁
-        → FieldsCopied (6 + key sizes + key sizes) (h ∷ take (key sizes) (drop j t) ∷ take (key sizes) (drop k t) ∷ []) d o₂
+    front-fields : (j k : ℕ) (o₀ o₁ o₂ : List ℕ) → j + key sizes ≤ length t → k + key sizes ≤ length t → o₀ ≡ pasted 0 h d → o₁ ≡ pasted headerBytes (take (key sizes) (drop j t)) o₀
+        → o₂ ≡ pasted (headerBytes + key sizes) (take (key sizes) (drop k t)) o₁
+        → FieldsCopied (headerBytes + key sizes + key sizes) (h ∷ take (key sizes) (drop j t) ∷ take (key sizes) (drop k t) ∷ []) d o₂
     front-fields j k o₀ o₁ o₂ hj hk e₀ e₁ e₂ =
         let n = key sizes in
-        let f₀ = fields-more (fields-none {d = d}) 6 h o₀ (headed h dealKind _ is) (omega arith) e₀ in
+        let f₀ = fields-more (fields-none {d = d}) headerBytes h o₀ (headed h dealKind _ is) (omega arith) e₀ in
         let f₁ = fields-more f₀ n (take n (drop j t)) o₁ (part-size j n hj) (omega arith) e₁ in
         fields-more f₁ n (take n (drop k t)) o₂ (part-size k n hk) (omega arith) e₂
 
   -- unit 0's frame, field by field
   pub first-frame : (session : ℕ) (d h o₀ o₁ o₂ o₃ o₄ : List ℕ) → length t ≡ tapeBytes (schemeOf sizes) → frameBytes (schemeOf sizes) dealKind ≤ length d
-      → h ≡ header dealKind (parametersOf side0 (sharedParameters session)) → o₀ ≡ pasted 0 h d → o₁ ≡ pasted 6 (take (key sizes) (drop 0 t)) o₀
-      → o₂ ≡ pasted (6 + key sizes) (take (key sizes) (drop (2 * key sizes) t)) o₁
-      → o₃ ≡ pasted (6 + key sizes + key sizes) (take (inner sizes) (drop (4 * key sizes + inner sizes) t)) o₂
-      → o₄ ≡ pasted (6 + key sizes + key sizes + inner sizes) (take (2 * inner sizes) (drop (4 * key sizes + inner sizes + inner sizes) t)) o₃
+      → h ≡ header dealKind (parametersOf side0 (sharedParameters session)) → o₀ ≡ pasted 0 h d → o₁ ≡ pasted headerBytes (take (key sizes) (drop 0 t)) o₀
+      → o₂ ≡ pasted (headerBytes + key sizes) (take (key sizes) (drop (2 * key sizes) t)) o₁
+      → o₃ ≡ pasted (headerBytes + key sizes + key sizes) (take (inner sizes) (drop (4 * key sizes + inner sizes) t)) o₂
+      → o₄ ≡ pasted (headerBytes + key sizes + key sizes + inner sizes) (take (2 * inner sizes) (drop (4 * key sizes + inner sizes + inner sizes) t)) o₃
       → o₄ ≡ dealFrame (schemeOf sizes) (sharedParameters session) noFiles t side0 ++ drop (frameBytes (schemeOf sizes) dealKind) d
   first-frame session d h o₀ o₁ o₂ o₃ o₄ l room is e₀ e₁ e₂ e₃ e₄ =
       let n = key sizes in
@@ -144,17 +144,17 @@ module _ (sizes : Sizes) (t : List ℕ) where
 
   -- unit 1's, whose z1 and r1 are written where they stand
   pub second-frame : (session : ℕ) (d h o₀ o₁ o₂ v w : List ℕ) → length t ≡ tapeBytes (schemeOf sizes) → frameBytes (schemeOf sizes) dealKind ≤ length d
-      → h ≡ header dealKind (parametersOf side1 (sharedParameters session)) → o₀ ≡ pasted 0 h d → o₁ ≡ pasted 6 (take (key sizes) (drop (key sizes) t)) o₀
-      → o₂ ≡ pasted (6 + key sizes) (take (key sizes) (drop (3 * key sizes) t)) o₁
+      → h ≡ header dealKind (parametersOf side1 (sharedParameters session)) → o₀ ≡ pasted 0 h d → o₁ ≡ pasted headerBytes (take (key sizes) (drop (key sizes) t)) o₀
+      → o₂ ≡ pasted (headerBytes + key sizes) (take (key sizes) (drop (3 * key sizes) t)) o₁
       → v ≡ z (schemeOf sizes) noFiles t side1 → w ≡ r (schemeOf sizes) t side1
-      → (let at : ℕ = 6 + key sizes + key sizes in let o₃ = take at o₂ ++ (v ++ drop (at + inner sizes - at) (drop at o₂)) in
+      → (let at : ℕ = headerBytes + key sizes + key sizes in let o₃ = take at o₂ ++ (v ++ drop (at + inner sizes - at) (drop at o₂)) in
       take (at + inner sizes) o₃ ++ (w ++ drop (at + inner sizes + 2 * inner sizes - (at + inner sizes)) (drop (at + inner sizes) o₃)))
       ≡ dealFrame (schemeOf sizes) (sharedParameters session) noFiles t side1 ++ drop (frameBytes (schemeOf sizes) dealKind) d
   second-frame session d h o₀ o₁ o₂ v w l room is e₀ e₁ e₂ ev ew =
       let n = key sizes in
       let m = inner sizes in
       let S = schemeOf sizes in
-      let at : ℕ = 6 + n + n in
+      let at : ℕ = headerBytes + n + n in
       let o₃ : List ℕ = take at o₂ ++ (v ++ drop (at + m - at) (drop at o₂)) in
       let lv : length v ≡ m = ap length ev ∙ z-long in
       let lw : length w ≡ 2 * m = ap length ew ∙ r-long in

@@ -9,7 +9,7 @@ use Rattle.linear_model.specs.Bits.{addBits}
 use Rattle.linear_model.proofs.Copies.{pasted}
 use Rattle.linear_model.proofs.Strings.{bytes-add}
 use Rattle.pair_model.specs.Scheme.{layoutBytes, field, concat}
-use Rattle.pair_model.specs.Frame.{Parameters, header}
+use Rattle.pair_model.specs.Frame.{Parameters, header, headerBytes}
 use Rattle.pair_model.proofs.Internal.Fields.{field-at}
 use Rattle.pair_model.proofs.Internal.FieldCopies.{FieldsCopied, fields-more, fields-front}
 
@@ -17,12 +17,12 @@ use Rattle.pair_model.proofs.Internal.FieldCopies.{FieldsCopied, fields-more, f
 pub front-of-room : (s d o : List ℕ) (n : ℕ) → length s ≡ n → o ≡ pasted 0 s d → take n o ≡ s
 front-of-room s d o n l e = ap (take n) e ∙ take-at s (drop (0 + length s) d) n l
 
--- a header has six bytes
-header-long : (kind : ℕ) (t : Parameters) → length (header kind t) ≡ 6
+-- the length of a header
+header-long : (kind : ℕ) (t : Parameters) → length (header kind t) ≡ headerBytes
 unfolding header
 header-long kind t = refl
 
-pub headed : (h : List ℕ) (kind : ℕ) (t : Parameters) → h ≡ header kind t → length h ≡ 6
+pub headed : (h : List ℕ) (kind : ℕ) (t : Parameters) → h ≡ header kind t → length h ≡ headerBytes
 headed h kind t e = ap length e ∙ header-long kind t
 
 -- bytes k to j of a string

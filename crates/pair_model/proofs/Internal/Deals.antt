@@ -16,7 +16,7 @@ use Rattle.linear_model.proofs.Vectors.{length-packTrits, bytes-subtract}
 use Rattle.numbers.specs.Number.{first, output}
 use Rattle.pair_model.specs.Scheme.{Files, badLength, faultsIn, Scheme, Side, side0, side1, layoutBytes, concat}
 use Rattle.pair_model.specs.Tape.{tapeBytes, w̃, z, r0, r, dealLayout, deal}
-use Rattle.pair_model.specs.Frame.{SharedParameters, parametersOf, dealKind, frameBytes}
+use Rattle.pair_model.specs.Frame.{SharedParameters, parametersOf, dealKind, frameBytes, headerBytes}
 use Rattle.pair_model.specs.Sampler.{tritOf, copiedBytes, drawn, sampled, sampleConditions, sampleNumber}
 use Rattle.pair_model.specs.Dealer.{dealFrame, dealt, dealtBytes, dealConditions, dealNumber, dealSourceConditions, dealSourceNumber}
 use Rattle.numbers.proofs.Numbers.{at-least, first-none, is-equal, is-at-least, NoneHolds, first-merge}
@@ -95,7 +95,7 @@ module _ (S : Scheme) where
     -- a deal frame is as long as its kind says
     pub frame-long : (shared : SharedParameters) (i : Side) → length (dealFrame S shared lent t i) ≡ frameBytes S dealKind
     unfolding dealFrame
-    frame-long shared i = length-frame dealKind (parametersOf i shared) (deal S lent t i) ∙ ap (λ (k : ℕ). 6 + k) (deal-long i)
+    frame-long shared i = length-frame dealKind (parametersOf i shared) (deal S lent t i) ∙ ap (λ (k : ℕ). headerBytes + k) (deal-long i)
 
   -- the second frame behind the first, over the front of d
   pub deal-written : (shared : SharedParameters) (lent : Files) (t d o p : List ℕ) → length t ≡ tapeBytes S → dealtBytes S ≤ length d → let w = frameBytes S dealKind in

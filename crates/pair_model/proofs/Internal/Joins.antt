@@ -13,7 +13,7 @@ use Rattle.linear_model.specs.Products.{planeBytes}
 use Rattle.linear_model.proofs.Vectors.{length-packTrits}
 use Rattle.numbers.specs.Number.{Condition, _when_, first, output}
 use Rattle.pair_model.specs.Scheme.{Scheme}
-use Rattle.pair_model.specs.Frame.{shareKind, kindOf, bodyOf, codeBytes, frameBytes}
+use Rattle.pair_model.specs.Frame.{shareKind, kindOf, bodyOf, codeBytes, frameBytes, headerBytes}
 use Rattle.pair_model.specs.Header.{Header, headerNumber, refusedWith}
 use Rattle.pair_model.specs.Join.{unfitShare, spareSet, joinConditions, joinNumber, joined}
 use Rattle.numbers.proofs.Numbers.{first-pass, first-holds, first-zero, none-holds, or-left, or-right, is-at-least}
@@ -32,8 +32,8 @@ module _ (S : Scheme) where
   share-long f w = let k : kindOf f ≡ shareKind = omega arith in w .long ∙ ap (frameBytes S) k
 
   -- its body, as the code cuts it
-  share-body : (f : List ℕ) → length f ≡ frameBytes S shareKind → take (codeBytes S) (drop 6 f) ≡ bodyOf f
-  share-body f e = take-all (codeBytes S) (drop 6 f) (rw length-drop (omega arith))
+  share-body : (f : List ℕ) → length f ≡ frameBytes S shareKind → take (codeBytes S) (drop headerBytes f) ≡ bodyOf f
+  share-body f e = take-all (codeBytes S) (drop headerBytes f) (rw length-drop (omega arith))
 
   abbrev p : ℕ
   p = planeBytes (S .digits)
@@ -98,7 +98,7 @@ module _ (S : Scheme) (f g : List ℕ) where
   shares = 10 when (unfitShare S f || unfitShare S g) ∷ 11 when (spareSet S f || spareSet S g) ∷ []
 
   -- which the code judges one by one
-  pub share-numbers : length f ≡ frameBytes S shareKind → length g ≡ frameBytes S shareKind → lowerOf (numberOf S (take (codeBytes S) (drop 6 f))) (numberOf S (take (codeBytes S) (drop 6 g))) ≡ first shares
+  pub share-numbers : length f ≡ frameBytes S shareKind → length g ≡ frameBytes S shareKind → lowerOf (numberOf S (take (codeBytes S) (drop headerBytes f))) (numberOf S (take (codeBytes S) (drop headerBytes g))) ≡ first shares
   share-numbers p q =
       (λ i. lowerOf (numberOf S (share-body S f p i)) (numberOf S (share-body S g q i)))
       ∙ lower-first 10 11 refl refl refl refl (unfitShare S f) (spareSet S f) (unfitShare S g) (spareSet S g) [] (λ a b. first-zero [] tt)
@@ -134,7 +134,7 @@ module _ (S : Scheme) (f g : List ℕ) where
 
 -- the code, over the front of d
 pub join-written : (S : Scheme) (f g d o : List ℕ) → length f ≡ frameBytes S shareKind → length g ≡ frameBytes S shareKind → codeBytes S ≤ length d → let n = codeBytes S in
-    o ≡ addTrits (length (take n d) / 2) (take n (drop 6 f)) (take n (drop 6 g)) ++ drop (2 * (length (take n d) / 2)) (take n d)
+    o ≡ addTrits (length (take n d) / 2) (take n (drop headerBytes f)) (take n (drop headerBytes g)) ++ drop (2 * (length (take n d) / 2)) (take n d)
     → o ++ drop n d ≡ output 0 (joined S f g) d
 unfolding output joined addTrits
 join-written S f g d o lf lg h e =
@@ -142,8 +142,8 @@ join-written S f g d o lf lg h e =
     let n = codeBytes S in
     let l : length (take n d) ≡ n = length-take-le n d h in
     let q : length (take n d) / 2 ≡ p = half S (take n d) l in
-    let c : List ℕ = addTrits p (drop 6 f) (drop 6 g) in
+    let c : List ℕ = addTrits p (drop headerBytes f) (drop headerBytes g) in
     let m : o ≡ c =
     e ∙ (λ i. addTrits (q i) (share-body S f lf i) (share-body S g lg i) ++ drop (2 * q i) (take n d))
     ∙ ap (λ (x : List ℕ). c ++ x) (drop-of-length-le (take n d) {i = n} (omega arith)) ∙ append-nil c in
-    (λ i. m i ++ drop (sym (length-packTrits p (sumTrit p (drop 6 f) (drop 6 g))) i) d)
+    (λ i. m i ++ drop (sym (length-packTrits p (sumTrit p (drop headerBytes f) (drop headerBytes g))) i) d)

@@ -16,7 +16,7 @@ use Rattle.numbers.proofs.Numbers.{denied, is-true}
 use Rattle.pair_model.specs.Scheme.{files, noFiles, readingNumber, concat, Side, side0, side1, other, sideByte}
 use Rattle.pair_model.specs.Base.{base}
 use Rattle.pair_model.specs.Tape.{Accepted, K̃, x̃, z, r0, deal}
-use Rattle.pair_model.specs.Frame.{sharedParameters, parameters, frame, bodyOf}
+use Rattle.pair_model.specs.Frame.{sharedParameters, parameters, frame, bodyOf, headerBytes}
 use Rattle.pair_model.specs.Dealer.{dealFrame, dealt, dealConditions, dealNumber}
 use Rattle.pair_model.specs.Unit.{State, Stepped, Beginning, begin, leastOutput, stepNumber, step, takeMask, advance}
 use Rattle.pair_model.specs.Join.{joined}
@@ -129,14 +129,14 @@ module _ (input : List ℕ) (n : ℕ) (f : RunFits input n) (small : (i : ℕ) �
   open-is i sent e =
       e
       ∙ padded-whole (frame 2 (parametersAt base given tape (other i)) (openBody base given tape (other i)))
-      (length-frame 2 (parametersAt base given tape (other i)) (openBody base given tape (other i)) ∙ ap (λ (k : ℕ). 6 + k) (open-length (other i)))
+      (length-frame 2 (parametersAt base given tape (other i)) (openBody base given tape (other i)) ∙ ap (λ (k : ℕ). headerBytes + k) (open-length (other i)))
 
   pub mask-is : (i : Side) (sent : List ℕ) → sent ≡ padded (getD (outgoing base given tape (other i)) 1 []) → take 38 sent ≡ incoming base given tape i 2
   unfolding outgoing incoming
   mask-is i sent e =
       ap (take 38) e
       ∙ padded-front 38 (frame 3 (parametersAt base given tape (other i)) (mask base given tape (other i)))
-      (length-frame 3 (parametersAt base given tape (other i)) (mask base given tape (other i)) ∙ ap (λ (k : ℕ). 6 + k) (bytes-mask base given tape (other i) .size))
+      (length-frame 3 (parametersAt base given tape (other i)) (mask base given tape (other i)) ∙ ap (λ (k : ℕ). headerBytes + k) (bytes-mask base given tape (other i) .size))
 
   -- at the other's mask frame the step of a unit gets no number, so it takes the mask
   takes-mask : (i : Side)

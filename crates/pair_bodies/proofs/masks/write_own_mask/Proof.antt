@@ -9,7 +9,7 @@ use Rattle.pair_frames.specs.Schemes.{schemeOf}
 use Rattle.pair_frames.proofs.Fronts.{lent-fits, lent-front, lent-long}
 use Rattle.pair_frames.proofs.Parts.{field-part}
 use Rattle.pair_model.specs.Scheme.{noFiles}
-use Rattle.pair_model.specs.Frame.{openLayout}
+use Rattle.pair_model.specs.Frame.{openLayout, headerBytes}
 use Rattle.pair_model.specs.Unit.{maskOf}
 use Rattle.pair_bodies.proofs.masks.write_own_mask.Statement.{statement}
 use Rattle.pair_bodies.proofs.masks.write_own_mask.Tie as tie
@@ -42,8 +42,8 @@ returns c =
     let front = length-take-le n (zeros 32) (s .pre .0 .key) in
     let one = c .before .before .before .before .before .before .before .before .before .before .before .add-opened in
     let two = c .before .before .before .before .before .before .before .add-opened2 in
-    let left = field-part (openLayout S) 0 6 6 (6 + n) f (lit< tt) (omega arith) (omega arith) in
-    let right = field-part (openLayout S) 1 6 (6 + n) (6 + n + n) f (lit< tt) (omega arith) (omega arith) in
+    let left = field-part (openLayout S) 0 headerBytes headerBytes (headerBytes + n) f (lit< tt) (omega arith) (omega arith) in
+    let right = field-part (openLayout S) 1 headerBytes (headerBytes + n) (headerBytes + n + n) f (lit< tt) (omega arith) (omega arith) in
     let K̂ = lent-front n (zeros 32) (one .last .1 .1 .1 .0) (s .pre .0 .key) (one .kept .1 .1 .1 .0) ∙ one .ensures
     ∙ (λ i. addBits (front i) (addBits (front i) (a .key .now) (a .key-mask .now)) (left i)) in
     let x̂ = lent-front n (zeros 32) (two .last .1 .1 .1 .0) (s .pre .0 .key) (two .kept .1 .1 .1 .0) ∙ two .ensures

@@ -16,7 +16,7 @@ use Rattle.pair_frames.proofs.Parts.{headed, behind-long, fields-part}
 use Rattle.pair_model.specs.Scheme.{files, concat}
 use Rattle.linear_model.proofs.Copies.{pasted}
 use Rattle.pair_model.proofs.Internal.Lengths.{length-frame}
-use Rattle.pair_model.specs.Frame.{Parameters, shareKind, header, frame}
+use Rattle.pair_model.specs.Frame.{Parameters, shareKind, header, frame, headerBytes}
 use Rattle.pair_model.specs.Evaluator.{codeOf}
 use Rattle.pair_model.specs.Unit.{shareOf}
 use Rattle.pair_model.proofs.Theorem.ShareLaws.{bytes-code}
@@ -43,22 +43,22 @@ slice-aggregate-write-code : tie.Need-slice-aggregate-write-code
 slice-aggregate-write-code c = let s = c .before .before .before .before .before .before .before .before .before .before .before .before .before .before .before .before .before .before .before .before in let l = c .before .before .before .before .before .before .before .before .inner-share in sym (lent-long (2 * s .args .sizes .«inner_bytes») (zeros 64) (l .last .1 .1 .1 .0) (omega (arith, s .pre .0 .inner)) (l .kept .1 .1 .1 .0))
 
 -- the frame, by its header, which was copied to the front, and its body, which was written behind
-written : (kind n end : ℕ) (t : Parameters) (d o head body w : List ℕ) → end ≡ 6 + n → head ≡ header kind t → length body ≡ n → 6 + n ≤ length d → o ≡ pasted 0 head d
-    → w ≡ atFront body (take (end - 6) (drop 6 o)) → take 6 o ++ (w ++ drop (end - 6) (drop 6 o)) ≡ atFront (frame kind t body) d
+written : (kind n end : ℕ) (t : Parameters) (d o head body w : List ℕ) → end ≡ headerBytes + n → head ≡ header kind t → length body ≡ n → headerBytes + n ≤ length d → o ≡ pasted 0 head d
+    → w ≡ atFront body (take (end - headerBytes) (drop headerBytes o)) → take headerBytes o ++ (w ++ drop (end - headerBytes) (drop headerBytes o)) ≡ atFront (frame kind t body) d
 unfolding frame concat
 written kind n end t d o head body w e h l room is ew =
-    let f = fields-more (fields-none {d = d}) 6 head o (headed head kind t h) (omega arith) is in
-    let b : w ≡ body = filled (take (6 + n - 6) (drop 6 o)) w body (behind-long f n room) l (ew ∙ ap (λ (k : ℕ). atFront body (take (k - 6) (drop 6 o))) e) in
-    (λ i. take 6 o ++ (b i ++ drop (e i - 6) (drop 6 o)))
+    let f = fields-more (fields-none {d = d}) headerBytes head o (headed head kind t h) (omega arith) is in
+    let b : w ≡ body = filled (take (headerBytes + n - headerBytes) (drop headerBytes o)) w body (behind-long f n room) l (ew ∙ ap (λ (k : ℕ). atFront body (take (k - headerBytes) (drop headerBytes o))) e) in
+    (λ i. take headerBytes o ++ (b i ++ drop (e i - headerBytes) (drop headerBytes o)))
     ∙ fields-front (fields-part f n room body l)
-    ∙ (λ i. (h i ++ append-nil body i) ++ drop (6 + sym l i) d)
+    ∙ (λ i. (h i ++ append-nil body i) ++ drop (headerBytes + sym l i) d)
     ∙ ap (λ (k : ℕ). frame kind t body ++ drop k d) (sym (length-frame kind t body))
 
 -- the part behind a header of six bytes
-behind : (n end : ℕ) (t : Parameters) (d o head : List ℕ) (kind : ℕ) → end ≡ 6 + n → head ≡ header kind t → 6 + n ≤ length d → o ≡ pasted 0 head d → length (take (end - 6) (drop 6 o)) ≡ n
+behind : (n end : ℕ) (t : Parameters) (d o head : List ℕ) (kind : ℕ) → end ≡ headerBytes + n → head ≡ header kind t → headerBytes + n ≤ length d → o ≡ pasted 0 head d → length (take (end - headerBytes) (drop headerBytes o)) ≡ n
 behind n end t d o head kind e h room is =
-    ap (λ (k : ℕ). length (take (k - 6) (drop 6 o))) e
-    ∙ behind-long (fields-more (fields-none {d = d}) 6 head o (headed head kind t h) (omega arith) is) n room
+    ap (λ (k : ℕ). length (take (k - headerBytes) (drop headerBytes o))) e
+    ∙ behind-long (fields-more (fields-none {d = d}) headerBytes head o (headed head kind t h) (omega arith) is) n room
 
 write-code-requires : tie.Need-write-code-requires
 write-code-requires c κs =
@@ -91,7 +91,7 @@ returns c =
     ∙ ap (λ (x : List ℕ). innerShare m (a .parameters .side) x (a .r .now)) ŵ in
     written shareKind (2 * planeBytes (a .sizes .digits)) _ (parametersIn (a .parameters)) (a .out .now) _ _ (codeOf S lent (innerShare m (a .parameters .side) _ (a .r .now))) _
     (c .before .before .before .before .before .before .before .before .before .before .before .before .before .before .before .before .before .before .frame-bytes .ensures) (c .before .before .before .before .before .before .before .before .before .before .header-bytes .ensures) (bytes-code S lent _ .size) (s .pre .2) (c .before .before .before .before .before .before .before .put .ensures)
-    (code .ensures ∙ ap (λ (x : List ℕ). atFront (codeOf S lent x) (take (c .before .before .before .before .before .before .before .before .before .before .before .before .before .before .before .before .before .before .frame-bytes .result - 6) (drop 6 (c .before .before .before .before .before .before .before .put .last .1 .0)))) v)
+    (code .ensures ∙ ap (λ (x : List ℕ). atFront (codeOf S lent x) (take (c .before .before .before .before .before .before .before .before .before .before .before .before .before .before .before .before .before .before .frame-bytes .result - headerBytes) (drop headerBytes (c .before .before .before .before .before .before .before .put .last .1 .0)))) v)
 
 pub write-share-frame-spec : {M : Type 1} → statement M
 write-share-frame-spec =

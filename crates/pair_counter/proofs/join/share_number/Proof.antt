@@ -11,19 +11,19 @@ use Rattle.linear_model.specs.Trits.{fitTrits, zeroTrits}
 use Rattle.linear_model.specs.Products.{planeBytes}
 use Rattle.numbers.specs.Number.{first}
 use Rattle.pair_frames.specs.Schemes.{schemeOf}
-use Rattle.pair_model.specs.Frame.{shareKind, codeBytes, frameBytes}
+use Rattle.pair_model.specs.Frame.{shareKind, codeBytes, frameBytes, headerBytes}
 use Rattle.pair_model.specs.Scheme.{Scheme}
 use Rattle.pair_model.proofs.Internal.Joins.{share-fit, share-clear}
 use Rattle.pair_counter.proofs.join.share_number.Statement.{statement}
 use Rattle.pair_counter.proofs.join.share_number.Tie as tie
 
 -- a frame's share has the length of a code
-long : (S : Scheme) (f v : List ℕ) → length f ≡ frameBytes S shareKind → v ≡ take (codeBytes S) (drop 6 f) → length v ≡ codeBytes S
-long S f v l e = ap length e ∙ length-take-le (codeBytes S) (drop 6 f) (rw length-drop (omega arith))
+long : (S : Scheme) (f v : List ℕ) → length f ≡ frameBytes S shareKind → v ≡ take (codeBytes S) (drop headerBytes f) → length v ≡ codeBytes S
+long S f v l e = ap length e ∙ length-take-le (codeBytes S) (drop headerBytes f) (rw length-drop (omega arith))
 
 -- both tests, as those of the frame's share
 unfit : (c : tie.After-spare-bits-clear) → let a = c .before .before .before .before .args in
-    not (fitTrits (planeBytes (a .sizes .digits)) (a .sizes .digits) (take (codeBytes (schemeOf (a .sizes))) (drop 6 (a .f .now)))) ≡ not (c .before .trits-fit .result)
+    not (fitTrits (planeBytes (a .sizes .digits)) (a .sizes .digits) (take (codeBytes (schemeOf (a .sizes))) (drop headerBytes (a .f .now)))) ≡ not (c .before .trits-fit .result)
 unfit c =
     let s = c .before .before .before .before in
     let S = schemeOf (s .args .sizes) in
@@ -32,7 +32,7 @@ unfit c =
     ∙ share-fit S _ (long S (s .args .f .now) _ (s .pre .1) e) (c .before .trits-fit .ensures)
 
 spare : (c : tie.After-spare-bits-clear) → let a = c .before .before .before .before .args in
-    not (zeroTrits (planeBytes (a .sizes .digits)) (a .sizes .digits) (take (codeBytes (schemeOf (a .sizes))) (drop 6 (a .f .now)))) ≡ not (c .spare-bits-clear .result)
+    not (zeroTrits (planeBytes (a .sizes .digits)) (a .sizes .digits) (take (codeBytes (schemeOf (a .sizes))) (drop headerBytes (a .f .now)))) ≡ not (c .spare-bits-clear .result)
 spare c =
     let s = c .before .before .before .before in
     let S = schemeOf (s .args .sizes) in

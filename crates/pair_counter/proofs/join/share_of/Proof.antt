@@ -4,6 +4,7 @@ use mathlib.Core.List.{List}
 use Prim.Native.Nat.{ℕ, _+_, _-_, _*_}
 use native.Mathlib.Omega.{arith}
 use lib.ListN.{take, drop}
+use Rattle.pair_model.specs.Frame.{headerBytes}
 use Rattle.linear_model.specs.Products.{planeBytes}
 use Rattle.pair_counter.proofs.join.share_of.Statement.{statement}
 use Rattle.pair_counter.proofs.join.share_of.Tie as tie
@@ -12,8 +13,8 @@ returns : tie.Need-returns
 returns c =
     let a = c .before .before .args in
     let n : ℕ = 2 * planeBytes (a .sizes .digits) in
-    let e : 6 + n - 6 ≡ n = omega arith in
-    ap (λ (k : ℕ). take k (drop 6 (a .f .now))) e
+    let e : headerBytes + n - headerBytes ≡ n = omega arith in
+    ap (λ (k : ℕ). take k (drop headerBytes (a .f .now))) e
 
 pub share-of-spec : {M : Type 1} → statement M
 share-of-spec =

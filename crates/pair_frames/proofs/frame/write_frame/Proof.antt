@@ -5,7 +5,7 @@ use Prim.Native.Nat.{ℕ, _+_}
 use native.Mathlib.Omega.{arith}
 use borrow.Author.Needs.{needs}
 use lib.ListN.{length, drop, length-append}
-use Rattle.pair_model.specs.Frame.{header, frame}
+use Rattle.pair_model.specs.Frame.{header, frame, headerBytes}
 use Rattle.linear_model.proofs.Copies.{copied-first, copied-more}
 use Rattle.pair_frames.proofs.Parts.{headed}
 use Rattle.pair_frames.proofs.frame.write_frame.Statement.{statement}
@@ -23,7 +23,7 @@ returns c =
     let h = head .header-bytes .result in
     let l = headed h _ _ (head .header-bytes .ensures) in
     let f = copied-first h _ (omega (arith, s .pre)) (one .put .ensures) in
-    copied-more 6 h body _ _ f (sym l) (omega (arith, s .pre)) (two .put2 .ensures) .is
+    copied-more headerBytes h body _ _ f (sym l) (omega (arith, s .pre)) (two .put2 .ensures) .is
     ∙ (λ i. head .header-bytes .ensures i ++ body ++ drop ((length-append h body ∙ ap (λ (k : ℕ). k + length body) l) i) d)
 
 pub write-frame-spec : {M : Type 1} → statement M

@@ -14,7 +14,7 @@ use Rattle.pair_frames.specs.Schemes.{schemeOf}
 use Rattle.pair_frames.proofs.Parts.{field-part}
 use Rattle.pair_model.specs.Scheme.{Scheme, field, concat}
 use Rattle.pair_model.specs.Tape.{dealLayout}
-use Rattle.pair_model.specs.Frame.{Parameters, dealKind, openKind, header, frame, frameBytes, bodyOf}
+use Rattle.pair_model.specs.Frame.{Parameters, dealKind, openKind, header, frame, frameBytes, bodyOf, headerBytes}
 use Rattle.pair_model.specs.Unit.{takeDeal}
 use Rattle.pair_model.specs.StateSlice.{secretsLayout, encodeState, decodeState}
 use Rattle.pair_model.proofs.Theorem.Layouts.{fieldsOf, concat-fields}
@@ -27,17 +27,17 @@ use Rattle.pair_slices.proofs.slices.deal_in_place.Statement.{statement
 use Rattle.pair_slices.proofs.slices.deal_in_place.Tie as tie
 
 -- the slice after header and deal are copied and all behind them is cleared, with the halves between them as they were
-copied : (n m : ℕ) (d f head o₁ o₂ o₃ : List ℕ) → length d ≡ 6 + (n + (n + (n + (n + (m + (2 * m + (m + 0))))))) → length head ≡ 6
-    → length (take (2 * n + 3 * m) (drop 6 f)) ≡ 2 * n + 3 * m → o₁ ≡ pasted 0 head d → o₂ ≡ pasted (6 + n + n) (take (2 * n + 3 * m) (drop 6 f)) o₁
-    → o₃ ≡ take (6 + n + n + 2 * n + 3 * m) o₂ ++ zeros (length o₂ - (6 + n + n + 2 * n + 3 * m))
-    → o₃ ≡ concat (head ∷ (fieldsOf (n ∷ n ∷ []) (drop 6 d) ++ take (2 * n + 3 * m) (drop 6 f) ∷ zeros m ∷ []))
+copied : (n m : ℕ) (d f head o₁ o₂ o₃ : List ℕ) → length d ≡ headerBytes + (n + (n + (n + (n + (m + (2 * m + (m + 0))))))) → length head ≡ headerBytes
+    → length (take (2 * n + 3 * m) (drop headerBytes f)) ≡ 2 * n + 3 * m → o₁ ≡ pasted 0 head d → o₂ ≡ pasted (headerBytes + n + n) (take (2 * n + 3 * m) (drop headerBytes f)) o₁
+    → o₃ ≡ take (headerBytes + n + n + 2 * n + 3 * m) o₂ ++ zeros (length o₂ - (headerBytes + n + n + 2 * n + 3 * m))
+    → o₃ ≡ concat (head ∷ (fieldsOf (n ∷ n ∷ []) (drop headerBytes d) ++ take (2 * n + 3 * m) (drop headerBytes f) ∷ zeros m ∷ []))
 unfolding fieldsOf
 copied n m d f head o₁ o₂ o₃ l lh lf e₁ e₂ e₃ =
     let all : ℕ = 2 * n + 3 * m in
-    let deal : List ℕ = take all (drop 6 f) in
-    let at₂ : 6 + n + n ≡ 6 + (n + (n + 0)) = omega arith in
-    let at₃ : 6 + n + n + 2 * n + 3 * m ≡ 6 + (n + (n + 0)) + all = omega arith in
-    let f1 = fields-more (fields-none {d = d}) 6 head o₁ lh (omega arith) e₁ in
+    let deal : List ℕ = take all (drop headerBytes f) in
+    let at₂ : headerBytes + n + n ≡ headerBytes + (n + (n + 0)) = omega arith in
+    let at₃ : headerBytes + n + n + 2 * n + 3 * m ≡ headerBytes + (n + (n + 0)) + all = omega arith in
+    let f1 = fields-more (fields-none {d = d}) headerBytes head o₁ lh (omega arith) e₁ in
     let f2 = fields-kept f1 (n ∷ n ∷ []) (omega arith) in
     let f3 = fields-more f2 all deal o₂ lf (omega arith) (e₂ ∙ ap (λ (k : ℕ). pasted k deal o₁) at₂) in
     cleared-fields f3 (m ∷ []) o₃ (omega arith) (e₃ ∙ ap (λ (k : ℕ). take k o₂ ++ zeros (length o₂ - k)) at₃)
@@ -52,7 +52,7 @@ module _ (S : Scheme) (s f : List ℕ) where
       let n = S .keyBytes in
       let b = bodyOf f in
       let parts : body ++ concat (zeros (S .innerBytes) ∷ []) ≡ concat (fieldsOf (dealLayout S) b ++ zeros (S .innerBytes) ∷ []) =
-      (λ i. (e ∙ sym (concat-fields (dealLayout S) b (length-drop 6 f ∙ omega arith))) i ++ concat (zeros (S .innerBytes) ∷ []))
+      (λ i. (e ∙ sym (concat-fields (dealLayout S) b (length-drop headerBytes f ∙ omega arith))) i ++ concat (zeros (S .innerBytes) ∷ []))
       ∙ concat-append (fieldsOf (dealLayout S) b) (zeros (S .innerBytes) ∷ []) in
       λ i. h i ++ (take n (bodyOf s) ++ (take n (drop n (bodyOf s)) ++ parts i))
 
@@ -68,14 +68,14 @@ module _ (S : Scheme) (s f : List ℕ) where
       ∙ ap (λ (n : ℕ). takeDeal S (decodeState S s) (bodyOf f) .written ++ drop n o) (deal-length S (decodeState S s) (bodyOf f))
 
 -- the deal in a deal frame, and the two masks in it
-whole : (S : Scheme) (f : List ℕ) → length f ≡ frameBytes S dealKind → take (2 * S .keyBytes + 3 * S .innerBytes) (drop 6 f) ≡ bodyOf f
+whole : (S : Scheme) (f : List ℕ) → length f ≡ frameBytes S dealKind → take (2 * S .keyBytes + 3 * S .innerBytes) (drop headerBytes f) ≡ bodyOf f
 whole S f l = take-all (2 * S .keyBytes + 3 * S .innerBytes) (bodyOf f) (rw length-drop (omega arith))
 
-key-dealt : (S : Scheme) (f : List ℕ) → take (6 + S .keyBytes - 6) (drop 6 f) ≡ field (dealLayout S) 0 (bodyOf f)
-key-dealt S f = field-part (dealLayout S) 0 6 6 (6 + S .keyBytes) f (lit< tt) (omega arith) (omega arith)
+key-dealt : (S : Scheme) (f : List ℕ) → take (headerBytes + S .keyBytes - headerBytes) (drop headerBytes f) ≡ field (dealLayout S) 0 (bodyOf f)
+key-dealt S f = field-part (dealLayout S) 0 headerBytes headerBytes (headerBytes + S .keyBytes) f (lit< tt) (omega arith) (omega arith)
 
-label-dealt : (S : Scheme) (f : List ℕ) → take (6 + S .keyBytes + S .keyBytes - (6 + S .keyBytes)) (drop (6 + S .keyBytes) f) ≡ field (dealLayout S) 1 (bodyOf f)
-label-dealt S f = field-part (dealLayout S) 1 6 (6 + S .keyBytes) (6 + S .keyBytes + S .keyBytes) f (lit< tt) (omega arith) (omega arith)
+label-dealt : (S : Scheme) (f : List ℕ) → take (headerBytes + S .keyBytes + S .keyBytes - (headerBytes + S .keyBytes)) (drop (headerBytes + S .keyBytes) f) ≡ field (dealLayout S) 1 (bodyOf f)
+label-dealt S f = field-part (dealLayout S) 1 headerBytes (headerBytes + S .keyBytes) (headerBytes + S .keyBytes + S .keyBytes) f (lit< tt) (omega arith) (omega arith)
 
 returns : tie.Need-returns
 unfolding header decodeState

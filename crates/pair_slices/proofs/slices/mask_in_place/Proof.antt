@@ -10,7 +10,7 @@ use Rattle.linear_model.specs.Bits.{addBits}
 use Rattle.numbers.specs.Number.{atFront}
 use Rattle.pair_frames.specs.Schemes.{schemeOf}
 use Rattle.pair_model.specs.Scheme.{Files, files, Scheme, field}
-use Rattle.pair_model.specs.Frame.{Parameters, parameters, maskKind, shareKind, frame, frameBytes, sideOf, sessionOf, bodyOf}
+use Rattle.pair_model.specs.Frame.{Parameters, parameters, maskKind, shareKind, frame, frameBytes, sideOf, sessionOf, bodyOf, headerBytes}
 use Rattle.pair_model.specs.Unit.{done, shareOf, takeMask}
 use Rattle.pair_model.specs.StateSlice.{secretsLayout, encodeState, decodeState}
 use Rattle.pair_states.proofs.Places.{r-held, own-mask-held}
@@ -32,8 +32,8 @@ module _ (S : Scheme) (s f : List ℕ) (lent : Files) (t : Parameters) (is : t �
       λ i. atFront (frame shareKind (is i) (shareOf S lent (is i .side) (addBits (S .innerBytes) (a i) (b i)) (c i))) o
 
 -- the body of a mask frame
-body : (S : Scheme) (f : List ℕ) → length f ≡ frameBytes S maskKind → take (6 + S .innerBytes - 6) (drop 6 f) ≡ bodyOf f
-body S f l = take-all (6 + S .innerBytes - 6) (bodyOf f) (rw length-drop (omega arith))
+body : (S : Scheme) (f : List ℕ) → length f ≡ frameBytes S maskKind → take (headerBytes + S .innerBytes - headerBytes) (drop headerBytes f) ≡ bodyOf f
+body S f l = take-all (headerBytes + S .innerBytes - headerBytes) (bodyOf f) (rw length-drop (omega arith))
 
 returns : tie.Need-returns
 returns c =

@@ -11,7 +11,7 @@ use Rattle.numbers.specs.Number.{atFront}
 use Rattle.pair_frames.specs.Schemes.{schemeOf}
 use Rattle.pair_frames.proofs.Parts.{part-long, fields-part}
 use Rattle.pair_model.specs.Scheme.{noFiles, Scheme, field, concat}
-use Rattle.pair_model.specs.Frame.{Parameters, maskKind, openKind, header, frame, frameBytes, bodyOf}
+use Rattle.pair_model.specs.Frame.{Parameters, maskKind, openKind, header, frame, frameBytes, bodyOf, headerBytes}
 use Rattle.pair_model.specs.Unit.{takeOpen}
 use Rattle.pair_model.specs.StateSlice.{secretsLayout, stateBytes, encodeState, decodeState}
 use Rattle.pair_model.proofs.Theorem.Layouts.{fieldsOf}
@@ -22,21 +22,21 @@ use Rattle.pair_slices.proofs.slices.open_in_place.Statement.{statement
 use Rattle.pair_slices.proofs.slices.open_in_place.Tie as tie
 
 -- a string o with a header at its front, and then m bytes behind it written in place
-module _ (m : ℕ) (o o₁ : List ℕ) (room : 6 + m ≤ length o) (kept : length o₁ ≡ length o) where
-  lent-long : length (take (6 + m - 6) (drop 6 o₁)) ≡ m
-  lent-long = part-long o₁ 6 (6 + m) (omega arith) (omega arith) ∙ omega arith
+module _ (m : ℕ) (o o₁ : List ℕ) (room : headerBytes + m ≤ length o) (kept : length o₁ ≡ length o) where
+  lent-long : length (take (headerBytes + m - headerBytes) (drop headerBytes o₁)) ≡ m
+  lent-long = part-long o₁ headerBytes (headerBytes + m) (omega arith) (omega arith) ∙ omega arith
 
   module _ (w : List ℕ) (lw : length w ≡ m) where
     abbrev framed : List ℕ
-    framed = take 6 o₁ ++ (w ++ drop (6 + m - 6) (drop 6 o₁))
+    framed = take headerBytes o₁ ++ (w ++ drop (headerBytes + m - headerBytes) (drop headerBytes o₁))
 
-    framed-body : take m (drop 6 framed) ≡ w
+    framed-body : take m (drop headerBytes framed) ≡ w
     framed-body =
-        ap (take m) (drop-at (take 6 o₁) (w ++ drop (6 + m - 6) (drop 6 o₁)) 6 (length-take-le 6 o₁ (omega arith)))
-        ∙ take-at w (drop (6 + m - 6) (drop 6 o₁)) m lw
+        ap (take m) (drop-at (take headerBytes o₁) (w ++ drop (headerBytes + m - headerBytes) (drop headerBytes o₁)) headerBytes (length-take-le headerBytes o₁ (omega arith)))
+        ∙ take-at w (drop (headerBytes + m - headerBytes) (drop headerBytes o₁)) m lw
 
-    framed-is : (head : List ℕ) → length head ≡ 6 → o₁ ≡ pasted 0 head o → framed ≡ concat (head ∷ w ∷ []) ++ drop (6 + m) o
-    framed-is head l e = fields-front (fields-part (fields-more (fields-none {d = o}) 6 head o₁ l (omega arith) e) m room w lw)
+    framed-is : (head : List ℕ) → length head ≡ headerBytes → o₁ ≡ pasted 0 head o → framed ≡ concat (head ∷ w ∷ []) ++ drop (headerBytes + m) o
+    framed-is head l e = fields-front (fields-part (fields-more (fields-none {d = o}) headerBytes head o₁ l (omega arith) e) m room w lw)
 
 module _ (S : Scheme) (s : List ℕ) where
   -- all fields but the last
@@ -44,13 +44,13 @@ module _ (S : Scheme) (s : List ℕ) where
   stays = fieldsOf (take 6 (secretsLayout S)) (bodyOf s)
 
   -- the slice after two copies: header and mask, with the fields between them as they were
-  copied : (head w o₁ o₂ : List ℕ) → length s ≡ stateBytes S → length head ≡ 6 → length w ≡ S .innerBytes → o₁ ≡ pasted 0 head s
-      → o₂ ≡ pasted (6 + 4 * S .keyBytes + 3 * S .innerBytes) w o₁ → o₂ ≡ concat (head ∷ (stays ++ w ∷ []))
+  copied : (head w o₁ o₂ : List ℕ) → length s ≡ stateBytes S → length head ≡ headerBytes → length w ≡ S .innerBytes → o₁ ≡ pasted 0 head s
+      → o₂ ≡ pasted (headerBytes + 4 * S .keyBytes + 3 * S .innerBytes) w o₁ → o₂ ≡ concat (head ∷ (stays ++ w ∷ []))
   copied head w o₁ o₂ l lh lw e₁ e₂ =
       let n = S .keyBytes in
       let m = S .innerBytes in
-      let at : 6 + 4 * n + 3 * m ≡ 6 + (n + (n + (n + (n + (m + (2 * m + 0)))))) = omega arith in
-      let f1 = fields-more (fields-none {d = s}) 6 head o₁ lh (omega arith) e₁ in
+      let at : headerBytes + 4 * n + 3 * m ≡ headerBytes + (n + (n + (n + (n + (m + (2 * m + 0)))))) = omega arith in
+      let f1 = fields-more (fields-none {d = s}) headerBytes head o₁ lh (omega arith) e₁ in
       let f2 = fields-kept f1 (take 6 (secretsLayout S)) (omega arith) in
       let f3 = fields-more f2 m w o₂ lw (omega arith) (e₂ ∙ ap (λ (k : ℕ). pasted k w o₁) at) in
       fields-all f3 (omega arith)
@@ -62,14 +62,14 @@ module _ (S : Scheme) (s : List ℕ) where
     unfolding takeOpen decodeState encodeState frame concat field fieldsOf
     next = λ i. h i ++ concat (stays ++ e i ∷ [])
 
-    written : (o : List ℕ) → concat (head ∷ w ∷ []) ++ drop (6 + S .innerBytes) o ≡ atFront (takeOpen S (decodeState S s) (bodyOf f) noFiles .written) o
+    written : (o : List ℕ) → concat (head ∷ w ∷ []) ++ drop (headerBytes + S .innerBytes) o ≡ atFront (takeOpen S (decodeState S s) (bodyOf f) noFiles .written) o
     unfolding takeOpen frame concat
     written o =
-        (λ i. (h i ++ append-nil (e i) i) ++ drop (6 + S .innerBytes) o)
+        (λ i. (h i ++ append-nil (e i) i) ++ drop (headerBytes + S .innerBytes) o)
         ∙ ap (λ (k : ℕ). takeOpen S (decodeState S s) (bodyOf f) noFiles .written ++ drop k o) (open-length S (decodeState S s) (bodyOf f) noFiles)
 
 -- a mask frame is no longer than an open frame
-mask-fits : (S : Scheme) (o : List ℕ) → S .innerBytes ≡ S .keyBytes → frameBytes S openKind ≤ length o → 6 + S .innerBytes ≤ length o
+mask-fits : (S : Scheme) (o : List ℕ) → S .innerBytes ≡ S .keyBytes → frameBytes S openKind ≤ length o → headerBytes + S .innerBytes ≤ length o
 mask-fits S o e h = omega arith
 
 write-mask-of-requires : tie.Need-write-mask-of-requires

@@ -7,7 +7,7 @@ use borrow.Author.Needs.{needs}
 use lib.ListN.{length, drop}
 use Rattle.pair_frames.specs.Schemes.{schemeOf}
 use Rattle.pair_model.specs.Scheme.{concat}
-use Rattle.pair_model.specs.Frame.{header, frame}
+use Rattle.pair_model.specs.Frame.{header, frame, headerBytes}
 use Rattle.pair_model.specs.StateSlice.{secretsLayout, encodeState}
 use Rattle.pair_model.proofs.Internal.FieldCopies.{fields-none, fields-more}
 use Rattle.pair_states.proofs.Cleared.{blank, cleared-fields}
@@ -27,7 +27,7 @@ returns c =
     let p = s .pre in
     let behind : List ℕ = drop 2 (secretsLayout (schemeOf (a .sizes))) in
     let is = head .header-bytes .ensures in
-    let f1 = fields-more (fields-none {d = a .s .now}) 6 (head .header-bytes .result) _ (ap length is) (omega (arith, p .1)) (put .put .ensures) in
+    let f1 = fields-more (fields-none {d = a .s .now}) headerBytes (head .header-bytes .result) _ (ap length is) (omega (arith, p .1)) (put .put .ensures) in
     let f2 = fields-more f1 n (a .key .now) _ (p .2) (omega (arith, p .1)) (key .put2 .ensures) in
     let f3 = fields-more f2 n (a .label .now) _ (p .3) (omega (arith, p .1)) (label .put3 .ensures) in
     cleared-fields f3 behind _ (omega (arith, p .1)) (c .before .before .clear-from .ensures)

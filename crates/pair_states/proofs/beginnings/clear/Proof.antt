@@ -7,7 +7,7 @@ use borrow.Author.Needs.{needs}
 use lib.ListN.{length}
 use Rattle.pair_frames.specs.Schemes.{schemeOf}
 use Rattle.pair_model.specs.Scheme.{concat}
-use Rattle.pair_model.specs.Frame.{header, frame}
+use Rattle.pair_model.specs.Frame.{header, frame, headerBytes}
 use Rattle.pair_model.specs.StateSlice.{secretsLayout, encodeState}
 use Rattle.pair_model.proofs.Internal.FieldCopies.{fields-none, fields-more}
 use Rattle.pair_states.proofs.Cleared.{blank, cleared-fields}
@@ -22,7 +22,7 @@ returns c =
     let s = head .before .before in
     let layout : List ℕ = secretsLayout (schemeOf (s .args .sizes)) in
     let is = head .header-bytes .ensures in
-    let f = fields-more (fields-none {d = s .args .s .now}) 6 (head .header-bytes .result) _ (ap length is) (omega (arith, s .pre)) (put .put .ensures) in
+    let f = fields-more (fields-none {d = s .args .s .now}) headerBytes (head .header-bytes .result) _ (ap length is) (omega (arith, s .pre)) (put .put .ensures) in
     cleared-fields f layout _ (s .pre) (c .before .before .clear-from .ensures)
     ∙ ap (λ (h : List ℕ). h ++ concat (blank layout)) is
 

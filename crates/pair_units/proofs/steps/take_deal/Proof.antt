@@ -12,7 +12,7 @@ use Rattle.pair_frames.proofs.Parts.{field-part}
 use Rattle.pair_frames.proofs.Fronts.{prefix, prefix-long, zeros-front}
 use Rattle.pair_model.specs.Scheme.{concat}
 use Rattle.pair_model.specs.Tape.{dealLayout}
-use Rattle.pair_model.specs.Frame.{openKind, frame, frameBytes, bodyOf}
+use Rattle.pair_model.specs.Frame.{openKind, frame, frameBytes, bodyOf, headerBytes}
 use Rattle.pair_model.specs.Unit.{state, takeDeal}
 use Rattle.pair_model.proofs.Internal.Lengths.{deal-length}
 use Rattle.pair_units.specs.Units.{stateAt}
@@ -44,8 +44,8 @@ returns c =
     let f = a .f .now in
     let p = parametersIn (a .u .parameters) in
     let d = c .before .before .before .before .read-deal .ensures in
-    let K̃ = field-part (dealLayout S) 0 6 6 (6 + n) f (lit< tt) (omega arith) (omega arith) in
-    let x̃ = field-part (dealLayout S) 1 6 (6 + n) (6 + n + n) f (lit< tt) (omega arith) (omega arith) in
+    let K̃ = field-part (dealLayout S) 0 headerBytes headerBytes (headerBytes + n) f (lit< tt) (omega arith) (omega arith) in
+    let x̃ = field-part (dealLayout S) 1 headerBytes (headerBytes + n) (headerBytes + n + n) f (lit< tt) (omega arith) (omega arith) in
     let none = zeros-front (a .sizes .«inner_bytes») 32 (s .pre .0 .inner) in (
       (λ i. state p openKind (record {
         key = u .secrets .key;

@@ -10,7 +10,7 @@ use Rattle.numbers.specs.Number.{atFront}
 use Rattle.pair_frames.specs.Schemes.{schemeOf}
 use Rattle.pair_frames.proofs.Fronts.{prefix, prefix-long}
 use Rattle.pair_model.specs.Scheme.{files}
-use Rattle.pair_model.specs.Frame.{shareKind, frame, bodyOf}
+use Rattle.pair_model.specs.Frame.{shareKind, frame, bodyOf, headerBytes}
 use Rattle.pair_model.specs.Unit.{shareOf, takeMask}
 use Rattle.pair_units.specs.Units.{stateAt}
 use Rattle.pair_units.proofs.Rooms.{full}
@@ -38,7 +38,7 @@ returns c =
     let m = a .sizes .«inner_bytes» in
     let u = stateAt (a .sizes) (a .u) in
     let b = bodyOf (a .f .now) in
-    let body : take (6 + m - 6) (drop 6 (a .f .now)) ≡ b = take-all (6 + m - 6) b (rw length-drop (omega (arith, s .pre .1))) in (
+    let body : take (headerBytes + m - headerBytes) (drop headerBytes (a .f .now)) ≡ b = take-all (headerBytes + m - headerBytes) b (rw length-drop (omega (arith, s .pre .1))) in (
       c .cleared .ensures,
       c .before .before .before .write-share-frame .ensures
           ∙ ap (λ (x : List ℕ). atFront (frame shareKind (u .parameters) (shareOf S (files (a .file .now)) (u .parameters .side) (addBits m (u .secrets .ownMask) x) (u .secrets .r))) (a .out .now)) body,

@@ -9,7 +9,7 @@ use Rattle.linear_model.specs.Bits.{zeros}
 use Rattle.pair_frames.specs.Schemes.{schemeOf}
 use Rattle.pair_frames.proofs.Fronts.{prefix, prefix-long, lent-fits, lent-front, lent-long}
 use Rattle.pair_model.specs.Scheme.{noFiles}
-use Rattle.pair_model.specs.Frame.{maskKind, frame, bodyOf}
+use Rattle.pair_model.specs.Frame.{maskKind, frame, bodyOf, headerBytes}
 use Rattle.pair_model.specs.Unit.{withMask, takeOpen}
 use Rattle.pair_model.proofs.Internal.Lengths.{open-length}
 use Rattle.pair_units.specs.Units.{stateAt}
@@ -85,7 +85,7 @@ returns c =
     let ŵi = lent-front (s .args .sizes .«inner_bytes») (zeros 32) (l .last .1 .1 .1 .1 .1 .1 .1 .1 .0) (s .pre .0 .inner) (l .kept .1 .1 .1 .1 .1 .1 .1 .1 .0) ∙ l .ensures in
     let long = lent-long (s .args .sizes .«inner_bytes») (zeros 32) (l .last .1 .1 .1 .1 .1 .1 .1 .1 .0) (s .pre .0 .inner) (l .kept .1 .1 .1 .1 .1 .1 .1 .1 .0) in (
       (λ i. withMask S u (ŵi i)),
-      c .before .before .write-frame .ensures ∙ (λ i. frame maskKind (u .parameters) (ŵi i) ++ drop (6 + long i) o)
+      c .before .before .write-frame .ensures ∙ (λ i. frame maskKind (u .parameters) (ŵi i) ++ drop (headerBytes + long i) o)
           ∙ ap (λ (k : ℕ). takeOpen S u b noFiles .written ++ drop k o) (open-length S u b noFiles),
     )
 
