@@ -134,7 +134,7 @@ fn help_is_printed() {
     let (status, printed, said) = tree.run(&["--help"]);
     assert_eq!((status, &said[..]), (Some(0), ""));
     assert!(printed.starts_with("usage: ./run [--quick] [FILE | -]\n"), "{printed}");
-    for part in ["./run FILE ", "./run - ", "./run --quick ", "six minutes", "nothing is proved"] {
+    for part in ["./run FILE ", "./run - ", "./run --quick ", "four to six minutes", "nothing is proved"] {
         assert!(printed.contains(part), "{part}: {printed}");
     }
 }
@@ -237,7 +237,7 @@ fn crates_are_told_as_they_are_proved() {
     let (status, printed, said) = tree.run(&[]);
     assert_eq!((status, &printed[..]), (Some(0), "ran on sample"));
     assert!(
-        said.starts_with("== proving the program crate by crate: about six minutes"),
+        said.starts_with("== proving the program crate by crate: four to six minutes"),
         "{said}"
     );
     assert!(said.contains("./run --quick"), "{said}");

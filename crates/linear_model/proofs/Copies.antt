@@ -1,11 +1,10 @@
 -- Laws of strings that are copied into others, one after the other from the front.
 use mathlib.Core.Path.{_≡_, sym, ap, _∙_}
 use mathlib.Core.List.{List, _++_, append-nil}
-use Prim.Native.Nat.{ℕ, _+_, _-_, _≤_}
+use Prim.Native.Nat.{ℕ, _+_, _≤_}
 use native.Mathlib.Nat.{zero-add}
-use native.Mathlib.Omega.{arith}
-use lib.ListN.{length, take, drop, length-append, length-drop, drop-of-length-le}
-use lib.Seq.{take-at, length-take-le, drop-append-add, drop-drop}
+use lib.ListN.{length, take, drop, length-append, drop-of-length-le}
+use lib.Seq.{take-at, drop-append-add, drop-drop}
 
 -- `put` has left this of o: s from byte k on
 abbrev pub pasted : ℕ → List ℕ → List ℕ → List ℕ
@@ -33,10 +32,3 @@ module _ {d : List ℕ} where
   -- where all of d is covered
   pub copied-all : (a o : List ℕ) → Copied a d o → length d ≤ length a → o ≡ a
   copied-all a o c h = c .is ∙ ap (λ (s : List ℕ). a ++ s) (drop-of-length-le d h) ∙ append-nil a
-
--- n bytes from byte k on, copied over n bytes
-pub copy-part : (n k : ℕ) (d s o : List ℕ) → length d ≡ n → k + n ≤ length s → o ≡ pasted 0 (take (k + n - k) (drop k s)) d → o ≡ take n (drop k s)
-copy-part n k d s o e h p =
-    let m : k + n - k ≡ n = omega arith in
-    let l : length (take n (drop k s)) ≡ n = length-take-le n (drop k s) (rw length-drop (omega arith)) in
-    copied-all (take n (drop k s)) o (copied-first (take n (drop k s)) o (omega arith) (rw m at p)) (omega arith)

@@ -30,16 +30,7 @@ pub const ROW_COUNT: usize = 81;
 // The blocks of a file, of which the last is not full.
 pub const BLOCK_COUNT: usize = (ROW_COUNT + BLOCK_ROWS - 1) / BLOCK_ROWS;
 
-pub const LAST_BLOCK: usize = BLOCK_COUNT - 1;
-
-pub const LAST_ROWS: usize = ROW_COUNT - BLOCK_ROWS * LAST_BLOCK;
-
 pub const FILE_BYTES: usize = BLOCK_COUNT * BLOCK_BYTES;
-
-// The rows alone, of a full block and of a file.
-pub const BLOCK_ROWS_BYTES: usize = BLOCK_ROWS * ROW_BYTES;
-
-pub const ROWS_BYTES: usize = ROW_COUNT * ROW_BYTES;
 
 // A code: two planes, with a digit for each row.
 pub const PLANE_BYTES: usize = (ROW_COUNT + 7) / 8;
