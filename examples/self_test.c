@@ -14,8 +14,8 @@
 
 /* The interface that this host was written for. Another one does not compile, where the host would else go
  * wrong; and a library of other lengths than this header's refuses the sample with 1. */
-#if PAIR_VERSION_MAJOR != 1 || PAIR_VERSION < PAIR_VERSION_OF(1, 0, 0)
-#error "this host is written for version 1 of service_pair.h"
+#if PAIR_VERSION_MAJOR != 2 || PAIR_VERSION < PAIR_VERSION_OF(2, 0, 0)
+#error "this host is written for version 2 of service_pair.h"
 #endif
 _Static_assert(sizeof(size_t) == sizeof(uint64_t), "the library is for 64 bits");
 

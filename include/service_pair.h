@@ -9,21 +9,22 @@
  *
  * SLICES. A slice is a pointer and a length. The pointer is never NULL, also where the length is 0, and
  * the memory is the caller's: a function reads or writes it during the call only, and keeps no pointer.
- * The slices and the count of one call don't overlap, and nobody else writes them during it. An input
+ * The slices and the count or place of one call don't overlap, and nobody else writes them during it. An input
  * (`const`) has exactly the stated length, an output slice at least its length; a frame or a source may
  * have any. With another length a call is refused by number, so lengths need no check before it.
  *
  * NUMBERS. Every function returns a number of `enum pair_number`, and the lowest one whose condition
  * holds over all that the call reads. 0 is success: the stated bytes are written to the beginning of the
  * output slice, and its further bytes stay as they were. Any other number is a refusal: state and output
- * slice stay as they were, and a count is set to 0. The one exception is `pair_begin`.
+ * slice stay as they were, and a count or place is set to 0. The one exception is `pair_begin`.
  *
  * THREADS. There is no memory behind the functions: calls on different slices may run at the same time.
  * No function allocates, blocks, or calls back. How long a call takes is not spoken of by what is proved.
  *
  * SECRETS. Halves, tapes, sources, deal frames and states are secret, each from everyone but the unit or
  * the dealer whose it is; they are the caller's to keep and to overwrite. Open and mask frames go to the
- * other unit, share frames to the counter. A tape, or a source, is used for one session and never again.
+ * other unit, share frames to the counter. A tape is used for one session and never again, and so is each pair
+ * of a source's bits: one source serves session after session if each draw begins where the one before ended.
  *
  * STACK. What each call uses at most, arguments and return address included, in KiB, rounded up:
  *
@@ -49,11 +50,11 @@
 #include <stddef.h>
 #include <stdint.h>
 
-/* The version of this interface, as one number that compares: `#if PAIR_VERSION < PAIR_VERSION_OF(1, 2, 0)`.
+/* The version of this interface, as one number that compares: `#if PAIR_VERSION < PAIR_VERSION_OF(2, 1, 0)`.
  * MAJOR is raised where a host must be looked at again (a parameter, a length, a layout or the meaning of a
  * number is another), MINOR where a call, a number or a name was added, PATCH where neither is. The library
  * has no version of its own: header and library are of one build. */
-#define PAIR_VERSION_MAJOR 1
+#define PAIR_VERSION_MAJOR 2
 #define PAIR_VERSION_MINOR 0
 #define PAIR_VERSION_PATCH 0
 #define PAIR_VERSION_OF(major, minor, patch) ((major) * 10000 + (minor) * 100 + (patch))
@@ -83,6 +84,8 @@
 #define PAIR_FILE_BYTES 6144       /* a matrix file: 12 blocks of 512 bytes, each with a check */
 #define PAIR_TAPE_BYTES 256        /* a dealer's tape */
 #define PAIR_SOURCE_BYTES 384      /* random bytes that make a tape but for less than once in 2^400 times */
+#define PAIR_MORE_SOURCE_BYTES 288 /* more of them for each further tape: all are made but for less than once in
+                                      2^290 times. A tape takes 1,109 1/3 pairs on average, 277 1/3 bytes. */
 #define PAIR_DEALT_BYTES 332       /* both deal frames, unit 0's first */
 #define PAIR_STATE_BYTES 262       /* a unit's state: see pair_begin */
 #define PAIR_STEP_OUTPUT_BYTES 70  /* the least output slice of a step, at every stage */
@@ -123,8 +126,8 @@ enum pair_number {
     PAIR_UNFIT_TRIT = 10,     /* a trit with both bits set */
     PAIR_UNUSED_BIT = 11,     /* an unused bit set in a share frame */
     PAIR_ZERO_ROW = 12,       /* a row is all zero */
-    PAIR_SHORT_SOURCE = 13    /* fewer than 256 pairs other than 3 after source byte 191, or fewer than 192 source
-                                 bytes */
+    PAIR_SHORT_SOURCE = 13    /* a source has fewer than 768 pairs from the start, or fewer than 256 other than 3 after
+                                 those, or 2^62 bytes or more, whose pairs 64 bits would not count */
 };
 
 #ifdef __cplusplus
@@ -149,19 +152,28 @@ PAIR_NODISCARD PAIR_NONNULL
 uint32_t pair_evaluate(const uint8_t *key, size_t key_n, const uint8_t *label, size_t label_n,
                        const uint8_t *file, size_t file_n, uint8_t *out, size_t out_n);
 
-/* Writes a tape (PAIR_TAPE_BYTES) made of source bytes and sets *used to how many of them it took.
- * The source is uniformly random: PAIR_SOURCE_BYTES of it, or more. Gives 0, 1 or 13. */
+/* Writes a tape (PAIR_TAPE_BYTES) made of a source's pairs from `start` on, and sets *next to the first pair
+ * that it did not read. Pair k is bits 2k and 2k + 1 of the source; start and *next are both counted from the
+ * source's beginning. 768 pairs are copied; of those after them each 3 is skipped, and the others are trits,
+ * until there are 256. Gives 0, 1 or 13.
+ *
+ * The source is uniformly random, and start is 0 in a new one. The next draw is lent the same source and begins
+ * at *next: it shares no pair with this one, and none between them is lost. A host takes *next over only where
+ * the number is 0: after a refusal it is 0, and pairs from there on may have been used. After 13 the same
+ * source with more random bytes behind it serves, from the same start. Once a draw is done, the bytes before
+ * byte *next div 4 are not needed any more and can be wiped. */
 PAIR_NODISCARD PAIR_NONNULL
-uint32_t pair_sample(const uint8_t *source, size_t source_n, uint8_t *out, size_t out_n, uint64_t *used);
+uint32_t pair_sample(uint64_t start, const uint8_t *source, size_t source_n, uint8_t *out, size_t out_n,
+                     uint64_t *next);
 
 /* Writes unit 0's deal frame, then unit 1's (PAIR_DEALT_BYTES), of a session and a tape. Gives 0, 1 or 10. */
 PAIR_NODISCARD PAIR_NONNULL
 uint32_t pair_deal(uint32_t session, const uint8_t *tape, size_t tape_n, uint8_t *out, size_t out_n);
 
-/* The same of the tape that pair_sample makes of these source bytes. Gives 0, 1 or 13. */
+/* The same of the tape that pair_sample makes of this source from `start` on, with its *next. Gives 0, 1 or 13. */
 PAIR_NODISCARD PAIR_NONNULL
-uint32_t pair_deal_source(uint32_t session, const uint8_t *source, size_t source_n, uint8_t *out, size_t out_n,
-                          uint64_t *used);
+uint32_t pair_deal_source(uint32_t session, uint64_t start, const uint8_t *source, size_t source_n, uint8_t *out,
+                          size_t out_n, uint64_t *next);
 
 /* Begins a unit of side 0 or 1 with its halves, and writes its state (exactly PAIR_STATE_BYTES): it waits
  * for its deal frame. Gives 0, 1 or 2. A refusal writes the idle state, all zero, which accepts no frame,

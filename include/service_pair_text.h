@@ -36,7 +36,7 @@ static inline const char *pair_number_text(uint32_t number)
     case PAIR_ZERO_ROW:
         return "a row of the matrix is all zero";
     case PAIR_SHORT_SOURCE:
-        return "the source has too few random bytes";
+        return "the source has too few usable pairs of bits from the start on";
     default:
         return "no number of the table";
     }

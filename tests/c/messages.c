@@ -7,55 +7,69 @@
 #include <fcntl.h>
 #include <stdbool.h>
 
-enum { MESSAGES = 6, LONGEST = PAIR_FILE_BYTES + 4096, NOT_WIPED = 7 };
+enum { KINDS = 6, MESSAGES = 1 + SESSIONS * (KINDS - 1), LONGEST = PAIR_FILE_BYTES + 4096, NOT_WIPED = 7 };
 
-static const struct {
+/* The first one comes once, the others in each session; those of the other unit last. */
+static const struct kind {
     const char *name;
     size_t n;
-    bool frame;
-} messages[MESSAGES] = {
-    {"key half", PAIR_KEY_BYTES, false},         {"label half", PAIR_LABEL_BYTES, false},
-    {"matrix file", PAIR_FILE_BYTES, false},     {"deal frame", PAIR_DEAL_FRAME_BYTES, true},
-    {"open frame", PAIR_OPEN_FRAME_BYTES, true}, {"mask frame", PAIR_MASK_FRAME_BYTES, true},
+    bool frame, other;
+} kinds[KINDS] = {
+    {"matrix file", PAIR_FILE_BYTES, false, false},    {"key half", PAIR_KEY_BYTES, false, false},
+    {"label half", PAIR_LABEL_BYTES, false, false},    {"deal frame", PAIR_DEAL_FRAME_BYTES, true, false},
+    {"open frame", PAIR_OPEN_FRAME_BYTES, true, true}, {"mask frame", PAIR_MASK_FRAME_BYTES, true, true},
 };
 
 /* What unit 0 is sent, in this order, each with other bytes after it. */
 static uint8_t contents[MESSAGES][LONGEST];
 static unsigned tried;
 
-static void wrong(const char *name, size_t n, const char *what)
+static const struct kind *kind_of(int message)
 {
-    fprintf(stderr, "messages: %s of %zu bytes: %s\n", name, n, what);
+    return &kinds[message == 0 ? 0 : 1 + (message - 1) % (KINDS - 1)];
+}
+
+static void wrong(int message, size_t n, const char *what)
+{
+    fprintf(stderr, "messages: message %d, %s of %zu bytes: %s\n", message, kind_of(message)->name, n, what);
     exit(1);
 }
 
-/* A run in this process, for the frames that unit 1 sends. */
-static void make_messages(void)
+/* A session in this process, for the frames that unit 1 sends: the messages of this session, the halves drawn
+ * already. Gives the pair at which the next one begins. */
+static uint64_t make_session(uint32_t session, uint64_t start, uint8_t (*message)[LONGEST])
 {
     uint8_t tape[PAIR_TAPE_BYTES], dealt[PAIR_DEALT_BYTES], key1[PAIR_KEY_BYTES], label1[PAIR_LABEL_BYTES];
-    uint8_t state[PAIR_STATE_BYTES], open0[PAIR_STEP_OUTPUT_BYTES], out[PAIR_STEP_OUTPUT_BYTES];
-    uint64_t count;
-    draw(contents[0], sizeof contents);
-    draw_matrix(contents[2]);
-    draw(secret.source, sizeof secret.source);
-    expect_ok("sampler", pair_sample(secret.source, sizeof secret.source, tape, sizeof tape, &count));
-    expect_ok("dealer", pair_deal(SESSION, tape, sizeof tape, dealt, sizeof dealt));
-    memcpy(contents[3], dealt, PAIR_DEAL_FRAME_BYTES);
+    uint8_t state[PAIR_STATE_BYTES], open0[PAIR_STEP_OUTPUT_BYTES], out[PAIR_STEP_OUTPUT_BYTES], *file = contents[0];
+    uint64_t count, next;
+    expect_ok("sampler", pair_sample(start, secret.source, sizeof secret.source, tape, sizeof tape, &next));
+    expect_ok("dealer", pair_deal(session, tape, sizeof tape, dealt, sizeof dealt));
+    memcpy(message[2], dealt, PAIR_DEAL_FRAME_BYTES);
     /* unit 0's open frame */
-    expect_ok("unit 0", pair_begin(0, SESSION, contents[0], PAIR_KEY_BYTES, contents[1], PAIR_LABEL_BYTES, state,
+    expect_ok("unit 0", pair_begin(0, session, message[0], PAIR_KEY_BYTES, message[1], PAIR_LABEL_BYTES, state,
                                    sizeof state));
-    expect_ok("unit 0", pair_step(state, sizeof state, dealt, PAIR_DEAL_FRAME_BYTES, contents[2], 0, open0,
-                                  sizeof open0, &count));
+    expect_ok("unit 0", pair_step(state, sizeof state, dealt, PAIR_DEAL_FRAME_BYTES, file, 0, open0, sizeof open0,
+                                  &count));
     /* unit 1's open and mask frame */
     draw(key1, sizeof key1);
     draw(label1, sizeof label1);
-    expect_ok("unit 1", pair_begin(1, SESSION, key1, sizeof key1, label1, sizeof label1, state, sizeof state));
-    expect_ok("unit 1", pair_step(state, sizeof state, dealt + PAIR_DEAL_FRAME_BYTES, PAIR_DEAL_FRAME_BYTES,
-                                  contents[2], 0, out, sizeof out, &count));
-    memcpy(contents[4], out, (size_t)count);
-    expect_ok("unit 1", pair_step(state, sizeof state, open0, PAIR_OPEN_FRAME_BYTES, contents[2], 0, out, sizeof out,
-                                  &count));
-    memcpy(contents[5], out, (size_t)count);
+    expect_ok("unit 1", pair_begin(1, session, key1, sizeof key1, label1, sizeof label1, state, sizeof state));
+    expect_ok("unit 1", pair_step(state, sizeof state, dealt + PAIR_DEAL_FRAME_BYTES, PAIR_DEAL_FRAME_BYTES, file, 0,
+                                  out, sizeof out, &count));
+    memcpy(message[3], out, (size_t)count);
+    expect_ok("unit 1", pair_step(state, sizeof state, open0, PAIR_OPEN_FRAME_BYTES, file, 0, out, sizeof out, &count));
+    memcpy(message[4], out, (size_t)count);
+    return next;
+}
+
+static void make_messages(void)
+{
+    uint64_t start = 0;
+    draw(contents[0], sizeof contents);
+    draw_matrix(contents[0]);
+    draw(secret.source, sizeof secret.source);
+    for (uint32_t session = 1; session <= SESSIONS; session++)
+        start = make_session(session, start, contents + 1 + (session - 1) * (KINDS - 1));
     wipe_secret();
 }
 
@@ -91,7 +105,8 @@ static int run_unit(int other, size_t n, char *said, size_t said_n)
     close(errors[1]);
     for (int i = 0; i < MESSAGES; i++) {
         /* A unit that has refused one is gone, and its end closed. */
-        ssize_t sent = send(i < 4 ? home[0] : between[0], contents[i], i == other ? n : messages[i].n, MSG_NOSIGNAL);
+        const struct kind *kind = kind_of(i);
+        ssize_t sent = send(kind->other ? between[0] : home[0], contents[i], i == other ? n : kind->n, MSG_NOSIGNAL);
         if (sent < 0 && errno != EPIPE && errno != ECONNRESET)
             fail("send");
     }
@@ -112,20 +127,19 @@ static void try_length(int other, size_t n)
 {
     char said[512], right[64];
     int status = run_unit(other, n, said, sizeof said);
-    const char *name = messages[other].name;
+    const struct kind *kind = kind_of(other);
     tried++;
     if (status == NOT_WIPED)
-        wrong(name, n, "secrets were left");
-    if (n == messages[other].n) {
+        wrong(other, n, "secrets were left");
+    if (n == kind->n) {
         if (status != 0 || said[0] != '\0')
-            wrong(name, n, "a fit message was refused");
+            wrong(other, n, "a fit message was refused");
         return;
     }
-    unsigned number = !messages[other].frame ? PAIR_WRONG_LENGTH : n < PAIR_HEADER_BYTES ? PAIR_NO_KIND
-                                                                                         : PAIR_FRAME_LENGTH;
+    unsigned number = !kind->frame ? PAIR_WRONG_LENGTH : n < PAIR_HEADER_BYTES ? PAIR_NO_KIND : PAIR_FRAME_LENGTH;
     snprintf(right, sizeof right, "refused with %u: ", number);
     if (status != 1 || strstr(said, right) == NULL)
-        wrong(name, n, status == 0 ? "it was accepted" : said);
+        wrong(other, n, status == 0 ? "it was accepted" : said);
 }
 
 /* The whole example: two units, dealer, owners and counter. */
@@ -158,7 +172,7 @@ int main(void)
     alarm(120);
     make_messages();
     for (int i = 0; i < MESSAGES; i++) {
-        size_t fit = messages[i].n;
+        size_t fit = kind_of(i)->n;
         const size_t lengths[] = {0, 1, fit - 1, fit, fit + 1, fit + 2, fit + 500, LONGEST};
         for (size_t k = 0; k < sizeof lengths / sizeof lengths[0]; k++)
             try_length(i, lengths[k]);

@@ -9,9 +9,10 @@
  *     secrets address    an address that does: likewise
  *     secrets mask       a product of 64 bytes that jumps on each bit of a key: likewise
  *
- * Not marked: lengths, sides, sessions, stages and the other bytes of headers, the matrix file, and of a
- * sampler's source the bytes after 191. Which pairs of those are skipped decides where the others go and
- * how many bytes are used, and says nothing of the others' values; memcheck can't tell the two apart. */
+ * Not marked: lengths, sides, sessions, stages and the other bytes of headers, the matrix file, starts, and of
+ * a sampler's source the bytes that trits are drawn from, also where some pairs of the first one are copied.
+ * Which pairs of those are skipped decides where the others go and where the draw ends, and says nothing of
+ * the others' values; memcheck can't tell the two apart. */
 #include "inputs.h"
 #include "secrets.h"
 #include "service_pair.h"
@@ -92,7 +93,6 @@ static void make_inputs(void)
     fill(keys[0], sizeof keys);
     fill(labels[0], sizeof labels);
     make_input(input, keys, labels, tape, file);
-    hide(source, COPIED);
     hide(tape, sizeof tape);
     hide(keys, sizeof keys);
     hide(labels, sizeof labels);
@@ -108,15 +108,25 @@ static void expect_frame(const char *name, const uint8_t *frame, size_t n)
     expect_secret(name, frame + PAIR_HEADER_BYTES, n - PAIR_HEADER_BYTES);
 }
 
+/* Draws from a start. Trits are drawn from byte COPIED after the start's own on. */
+static void try_draws(uint64_t start)
+{
+    uint8_t sampled[PAIR_TAPE_BYTES];
+    uint64_t next;
+    show(source, sizeof source);
+    hide(source + start / 4, COPIED);
+    expect("pair_deal_source",
+           pair_deal_source(SESSION, start, source, sizeof source, dealt, sizeof dealt, &next), PAIR_DONE, 0);
+    expect_public("pair_deal_source", &next, sizeof next);
+    expect("pair_sample", pair_sample(start, source, sizeof source, sampled, sizeof sampled, &next), PAIR_DONE, 0);
+    expect_public("pair_sample", &next, sizeof next);
+    expect_secret("pair_sample", sampled, COPIED);
+    expect("pair_sample, short source",
+           pair_sample(start, source, (size_t)(next - 1) / 4, sampled, sizeof sampled, &next), PAIR_SHORT_SOURCE, 0);
+}
+
 static void try_dealer(void)
 {
-    uint64_t used;
-    expect("pair_deal_source",
-           pair_deal_source(SESSION, source, sizeof source, dealt, sizeof dealt, &used), PAIR_DONE, 0);
-    expect_public("pair_deal_source", &used, sizeof used);
-    uint8_t sampled[PAIR_TAPE_BYTES];
-    expect("pair_sample", pair_sample(source, sizeof source, sampled, sizeof sampled, &used), PAIR_DONE, 0);
-    expect_secret("pair_sample", sampled, COPIED);
     /* The number tells whether r0 is fit: one jump. */
     expect("pair_deal", pair_deal(SESSION, tape, sizeof tape, dealt, sizeof dealt), PAIR_DONE, 1);
     expect_frame("pair_deal", dealt, PAIR_DEAL_FRAME_BYTES);
@@ -253,6 +263,8 @@ int main(int argc, char **argv)
         }
     count_reports = strcmp(how, "reports") == 0;
     make_inputs();
+    for (uint64_t start = 0; start < 8; start++)
+        try_draws(start);
     try_dealer();
     try_beginnings();
     try_steps();

@@ -12,7 +12,7 @@ enum { SLICES = 4, SESSION = 0x01020304, PLANE = 32 };
 enum role {
     INPUT,          /* 1 if another than stated */
     FRAME,          /* 3 if under 6, else 4 if another than its kind's */
-    SOURCE,         /* 13 if shorter than what is used */
+    SOURCE,         /* 13 if shorter than what is read */
     FILE_UNREAD,    /* nothing */
     FILE_OF_MASK,   /* as an input, if the frame has a first byte */
     OUTPUT,         /* 1 if shorter */
@@ -33,6 +33,7 @@ struct call {
     size_t writes;    /* to the output slice */
     uint64_t count;   /* what success reports, if the function reports */
     bool counts;
+    uint64_t start;   /* a draw's */
     uint32_t side;    /* a beginning's */
     uint32_t number;  /* with fit slices */
 };
@@ -63,8 +64,7 @@ static uint32_t run_evaluate(const struct call *call, const struct lent *s, uint
 
 static uint32_t run_sample(const struct call *call, const struct lent *s, uint64_t *count)
 {
-    (void)call;
-    return pair_sample(s[0].p, s[0].n, s[1].p, s[1].n, count);
+    return pair_sample(call->start, s[0].p, s[0].n, s[1].p, s[1].n, count);
 }
 
 static uint32_t run_deal(const struct call *call, const struct lent *s, uint64_t *count)
@@ -75,8 +75,7 @@ static uint32_t run_deal(const struct call *call, const struct lent *s, uint64_t
 
 static uint32_t run_deal_source(const struct call *call, const struct lent *s, uint64_t *count)
 {
-    (void)call;
-    return pair_deal_source(SESSION, s[0].p, s[0].n, s[1].p, s[1].n, count);
+    return pair_deal_source(SESSION, call->start, s[0].p, s[0].n, s[1].p, s[1].n, count);
 }
 
 static uint32_t run_begin(const struct call *call, const struct lent *s, uint64_t *count)
@@ -247,7 +246,6 @@ static uint8_t dealt[PAIR_DEALT_BYTES], input[PAIR_INPUT_BYTES], keys[2][PAIR_KE
 static uint8_t states[2][4][PAIR_STATE_BYTES], frames[2][4][PAIR_DEAL_FRAME_BYTES];
 static const size_t frame_bytes[4] = {PAIR_DEAL_FRAME_BYTES, PAIR_OPEN_FRAME_BYTES, PAIR_MASK_FRAME_BYTES,
                                       PAIR_SHARE_FRAME_BYTES};
-static uint64_t used;
 
 static void made(const char *what, uint32_t number)
 {
@@ -279,8 +277,9 @@ static void make_steps(void)
 
 static void make_run(void)
 {
+    uint64_t next;
     fill(source, sizeof source);
-    made("pair_sample", pair_sample(source, sizeof source, tape, sizeof tape, &used));
+    made("pair_sample", pair_sample(0, source, sizeof source, tape, sizeof tape, &next));
     made("pair_deal", pair_deal(SESSION, tape, sizeof tape, dealt, sizeof dealt));
     for (int side = 0; side < 2; side++) {
         fill(keys[side], sizeof keys[side]);
@@ -324,32 +323,71 @@ static void try_beginnings(void)
     }
 }
 
+/* The sampler, and the dealer over its tape, from one start. What the draw reads of the source is its fit length. */
+static void try_draws(uint64_t start, uint32_t number)
+{
+    uint8_t drawn[PAIR_TAPE_BYTES];
+    uint64_t next;
+    uint32_t found = pair_sample(start, source, sizeof source, drawn, sizeof drawn, &next);
+    expect(found == number, "pair_sample", "the number is another than expected");
+    const struct slice a_source = {SOURCE, source, number == PAIR_DONE ? (size_t)(next + 3) / 4 : sizeof source};
+    struct call call = {"pair_sample", run_sample, {a_source, {OUTPUT, NULL, PAIR_TAPE_BYTES}}, .n = 2};
+    call.start = start;
+    call.number = number;
+    call.counts = true;
+    call.count = next;
+    call.writes = PAIR_TAPE_BYTES;
+    try_call(&call);
+    call.name = "pair_deal_source";
+    call.run = run_deal_source;
+    call.writes = call.slices[1].fit = PAIR_DEALT_BYTES;
+    try_call(&call);
+}
+
+/* A source whose pairs 64 bits would not count. No machine has one, so only its length is told: the answer is 13
+ * by that alone, where the bytes that are there would make a tape. */
+static void try_uncounted(void)
+{
+    static const size_t lengths[] = {(size_t)1 << 62, ((size_t)1 << 62) + PAIR_SOURCE_BYTES, SIZE_MAX / 2};
+    for (size_t i = 0; i < sizeof lengths / sizeof lengths[0]; i++) {
+        uint8_t out[PAIR_DEALT_BYTES] = {0}, zeros[PAIR_DEALT_BYTES] = {0};
+        uint64_t next = 1, dealt_next = 1;
+        uint32_t number = pair_sample(0, source, lengths[i], out, sizeof out, &next);
+        uint32_t dealt_number = pair_deal_source(SESSION, 0, source, lengths[i], out, sizeof out, &dealt_next);
+        calls += 2;
+        expect(number == PAIR_SHORT_SOURCE && dealt_number == number, "a source of 2^62 bytes", "it is not refused");
+        expect(next == 0 && dealt_next == 0, "a source of 2^62 bytes", "a refusal reports a place");
+        expect(memcmp(out, zeros, sizeof out) == 0, "a source of 2^62 bytes", "a refusal wrote");
+    }
+}
+
 int main(void)
 {
     make_matrix();
     make_run();
-    const struct slice a_file = {INPUT, file, sizeof file}, a_source = {SOURCE, source, (size_t)used};
+    const struct slice a_file = {INPUT, file, sizeof file};
     const struct slice a_key = {INPUT, keys[0], PAIR_KEY_BYTES}, a_label = {INPUT, labels[0], PAIR_LABEL_BYTES};
     const struct slice a_tape = {INPUT, tape, sizeof tape}, all_rows = {INPUT, rows, sizeof rows};
     const struct slice share0 = {FRAME, frames[0][3], PAIR_SHARE_FRAME_BYTES};
     const struct slice share1 = {FRAME, frames[1][3], PAIR_SHARE_FRAME_BYTES};
     const struct slice to_file = {OUTPUT, NULL, sizeof file}, to_rows = {OUTPUT, NULL, sizeof rows};
-    const struct slice to_tape = {OUTPUT, NULL, sizeof tape}, to_frames = {OUTPUT, NULL, sizeof dealt};
-    const struct slice to_code = {OUTPUT, NULL, PAIR_CODE_BYTES}, whole = {INPUT, input, sizeof input};
+    const struct slice to_frames = {OUTPUT, NULL, sizeof dealt}, to_code = {OUTPUT, NULL, PAIR_CODE_BYTES};
+    const struct slice whole = {INPUT, input, sizeof input};
     const struct call others[] = {
         {"pair_matrix_check", run_check, {a_file}, .n = 1},
         {"pair_matrix_write", run_write, {all_rows, to_file}, .n = 2, .writes = sizeof file},
         {"pair_matrix_read", run_read, {a_file, to_rows}, .n = 2, .writes = sizeof rows},
         {"pair_evaluate", run_evaluate, {a_key, a_label, a_file, to_code}, .n = 4, .writes = PAIR_CODE_BYTES},
-        {"pair_sample", run_sample, {a_source, to_tape}, .n = 2, .writes = sizeof tape, .counts = true, .count = used},
         {"pair_deal", run_deal, {a_tape, to_frames}, .n = 2, .writes = sizeof dealt},
-        {"pair_deal_source", run_deal_source, {a_source, to_frames}, .n = 2, .writes = sizeof dealt, .counts = true,
-         .count = used},
         {"pair_join", run_join, {share0, share1, to_code}, .n = 3, .writes = PAIR_CODE_BYTES},
         {"pair_run", run_run, {whole, to_code}, .n = 2, .writes = PAIR_CODE_BYTES},
     };
     for (size_t i = 0; i < sizeof others / sizeof others[0]; i++)
         try_call(&others[i]);
+    try_draws(0, PAIR_DONE);
+    try_draws(1, PAIR_DONE);
+    try_draws(UINT64_MAX, PAIR_SHORT_SOURCE);
+    try_uncounted();
     try_beginnings();
     try_steps();
     printf("slices: %lu calls between guards\n", calls);

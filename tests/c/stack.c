@@ -35,6 +35,8 @@ static void made(const char *what, uint32_t number)
 
 static uint8_t rows[PAIR_ROWS_BYTES], file[PAIR_FILE_BYTES], source[PAIR_SOURCE_BYTES], tape[PAIR_TAPE_BYTES];
 static uint8_t dealt[PAIR_DEALT_BYTES], input[PAIR_INPUT_BYTES], keys[2][PAIR_KEY_BYTES], labels[2][PAIR_LABEL_BYTES];
+/* what a draw that begins inside a byte makes */
+static uint8_t inside_tape[PAIR_TAPE_BYTES], inside_dealt[PAIR_DEALT_BYTES];
 /* unit 0's state before each step, the frame of each step, and both units' shares */
 static uint8_t states[3][PAIR_STATE_BYTES], frames[3][PAIR_DEAL_FRAME_BYTES], shares[2][PAIR_SHARE_FRAME_BYTES];
 static const size_t frame_bytes[3] = {PAIR_DEAL_FRAME_BYTES, PAIR_OPEN_FRAME_BYTES, PAIR_MASK_FRAME_BYTES};
@@ -48,8 +50,10 @@ static void make_inputs(void)
     make_fit(rows, sizeof rows, PLANE);
     made("pair_matrix_write", pair_matrix_write(rows, sizeof rows, file, sizeof file));
     fill(source, sizeof source);
-    made("pair_sample", pair_sample(source, sizeof source, tape, sizeof tape, &count));
+    made("pair_sample", pair_sample(0, source, sizeof source, tape, sizeof tape, &count));
     made("pair_deal", pair_deal(SESSION, tape, sizeof tape, dealt, sizeof dealt));
+    made("pair_sample", pair_sample(1, source, sizeof source, inside_tape, sizeof inside_tape, &count));
+    made("pair_deal", pair_deal(SESSION, inside_tape, sizeof inside_tape, inside_dealt, sizeof inside_dealt));
     fill(keys[0], sizeof keys);
     fill(labels[0], sizeof labels);
     make_input(input, keys, labels, tape, file);
@@ -132,19 +136,28 @@ static void mark(const uint8_t *secret, size_t n, uint8_t marks[STACK])
     }
 }
 
-/* How many bytes below `end` are of a secret: halves, source, tape, deals, unit 0's mask. */
+/* Both deals of a dealer. */
+static void mark_dealt(const uint8_t both[PAIR_DEALT_BYTES], uint8_t marks[STACK])
+{
+    const size_t body = PAIR_DEAL_FRAME_BYTES - PAIR_HEADER_BYTES;
+    mark(both + PAIR_HEADER_BYTES, body, marks);
+    mark(both + PAIR_DEAL_FRAME_BYTES + PAIR_HEADER_BYTES, body, marks);
+}
+
+/* How many bytes below `end` are of a secret: halves, source, tapes, deals, unit 0's mask. */
 static size_t secret_bytes(void)
 {
     static uint8_t marks[STACK];
-    const size_t body = PAIR_DEAL_FRAME_BYTES - PAIR_HEADER_BYTES, mask = PAIR_MASK_FRAME_BYTES - PAIR_HEADER_BYTES;
+    const size_t mask = PAIR_MASK_FRAME_BYTES - PAIR_HEADER_BYTES;
     size_t sum = 0;
     memset(marks, 0, sizeof marks);
     mark(keys[0], sizeof keys, marks);
     mark(labels[0], sizeof labels, marks);
     mark(source, sizeof source, marks);
     mark(tape, sizeof tape, marks);
-    mark(dealt + PAIR_HEADER_BYTES, body, marks);
-    mark(dealt + PAIR_DEAL_FRAME_BYTES + PAIR_HEADER_BYTES, body, marks);
+    mark(inside_tape, sizeof inside_tape, marks);
+    mark_dealt(dealt, marks);
+    mark_dealt(inside_dealt, marks);
     mark(states[2] + PAIR_STATE_BYTES - mask, mask, marks);
     for (size_t i = 0; i < sizeof marks; i++)
         sum += marks[i];
@@ -177,9 +190,11 @@ CALL(matrix_check, pair_matrix_check(file, sizeof file))
 CALL(matrix_write, pair_matrix_write(rows, sizeof rows, out, sizeof out))
 CALL(matrix_read, pair_matrix_read(file, sizeof file, out, sizeof out))
 CALL(evaluate, pair_evaluate(keys[0], PAIR_KEY_BYTES, labels[0], PAIR_LABEL_BYTES, file, sizeof file, out, sizeof out))
-CALL(sample, pair_sample(source, sizeof source, out, sizeof out, &count))
+CALL(sample, pair_sample(0, source, sizeof source, out, sizeof out, &count))
+CALL(sample_inside, pair_sample(1, source, sizeof source, out, sizeof out, &count))
 CALL(deal, pair_deal(SESSION, tape, sizeof tape, out, sizeof out))
-CALL(deal_source, pair_deal_source(SESSION, source, sizeof source, out, sizeof out, &count))
+CALL(deal_source, pair_deal_source(SESSION, 0, source, sizeof source, out, sizeof out, &count))
+CALL(deal_source_inside, pair_deal_source(SESSION, 1, source, sizeof source, out, sizeof out, &count))
 CALL(begin, pair_begin(0, SESSION, keys[0], PAIR_KEY_BYTES, labels[0], PAIR_LABEL_BYTES, state, sizeof state))
 CALL(step_deal, STEP(0))
 CALL(step_open, STEP(1))
@@ -198,8 +213,10 @@ static const struct call {
     {"pair_matrix_read", matrix_read, 4, NULL},
     {"pair_evaluate", evaluate, 9, NULL},
     {"pair_sample", sample, 4, NULL},
+    {"pair_sample, start 1", sample_inside, 4, NULL},
     {"pair_deal", deal, 10, NULL},
     {"pair_deal_source", deal_source, 13, NULL},
+    {"pair_deal_source, start 1", deal_source_inside, 13, NULL},
     {"pair_begin", begin, 1, NULL},
     {"pair_step, deal", step_deal, 3, states[0]},
     {"pair_step, open", step_open, 12, states[1]},
@@ -224,7 +241,7 @@ static void try_call(const struct call *call, bool print)
     if (depth(0x5a) > deep)
         deep = depth(0x5a);
     if (print)
-        printf("%-18s %4zu bytes deep, leaves %4zu secret ones: key halves %zu and %zu, label halves %zu and %zu\n",
+        printf("%-25s %4zu bytes deep, leaves %4zu secret ones: key halves %zu and %zu, label halves %zu and %zu\n",
                call->name, deep, secret_bytes(), copies_of(keys[0]), copies_of(keys[1]), copies_of(labels[0]),
                copies_of(labels[1]));
     if (deep * 10 > call->tenths * (size_t)KIB || deep > PAIR_STACK_BYTES)

@@ -1,6 +1,6 @@
-//! An independent reference of document 01 and what the tests share.
+//! An independent reference of documents 01 and 02 and what the tests share.
 //!
-//! The reference is written from document 01 alone, to be read and believed;
+//! The reference is written from the documents alone, to be read and believed;
 //! the tests compare the proved libraries with it byte by byte.
 
 pub mod fast;

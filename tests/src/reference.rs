@@ -1,5 +1,5 @@
-//! Document 01 in Rust, sentence by sentence: plain rather than fast, and
-//! total: no function panics on any input.
+//! Document 01, with the sampler of document 02, in Rust, sentence by sentence:
+//! plain rather than fast, and total: no function panics on any input.
 //!
 //! A byte past the end of a string counts as 0 in the functions of `bits` and
 //! `trits`; the calls above them refuse other lengths than stated.

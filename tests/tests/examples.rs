@@ -10,7 +10,7 @@ use service_pair_tests::reference::numbers::DONE;
 use service_pair_tests::reference::program::digits;
 use service_pair_tests::reference::trits::pack_trits;
 use service_pair_tests::samples::{damage_file, fit_file, FileFault};
-use std::collections::BTreeMap;
+use std::collections::{BTreeMap, BTreeSet};
 use std::env;
 use std::fs;
 use std::path::{Path, PathBuf};
@@ -168,6 +168,9 @@ fn missing_files_and_words_are_said() {
     assert!(message.starts_with("usage: "), "{message}");
 }
 
+/// The sessions that `two_units` runs.
+const SESSIONS: usize = 3;
+
 #[test]
 fn two_units_agree_with_the_evaluator() {
     let folder = folder("two_units");
@@ -175,14 +178,24 @@ fn two_units_agree_with_the_evaluator() {
     for _ in 0..count {
         let (status, output, message) = run(Command::new(example("two_units")).arg(&folder));
         assert_eq!((status, &message[..]), (Some(0), ""));
-        // What the counter had, judged by the reference.
+        // What the counter had last, judged by the reference.
         let files = Files::load(&folder);
         let (number, line) = files.expected();
         assert_eq!(number, DONE);
-        assert_eq!(output, format!("two units  {line}evaluator  {line}equal\n"));
+        let last = format!("two units  {line}evaluator  {line}equal\n");
+        let before = output.strip_suffix(&last).expect("the last session's code, and equal");
+        // The sessions before it, each with its own code.
+        let lines: Vec<&str> = before.lines().collect();
+        assert_eq!(lines.len(), 2 * (SESSIONS - 1), "{output}");
+        let mut codes = BTreeSet::from([line.trim_end()]);
+        for session in lines.chunks(2) {
+            let code = session[0].strip_prefix("two units  ").expect("the units' code");
+            assert_eq!(session[1].strip_prefix("evaluator  "), Some(code));
+            assert!(code.len() == ROWS && codes.insert(code), "{output}");
+        }
         assert_eq!(compare(&folder, &files).0, DONE);
     }
-    report("examples: runs of two units in two processes", count);
+    report("examples: sessions of two units in two processes", SESSIONS * count);
 }
 
 #[test]

@@ -2,11 +2,12 @@
 ghost use mathlib.Core.Path.{_≡_};
 ghost use lib.ListN.{length};
 ghost use Rattle.numbers.specs.Number.{output, reported};
+ghost use Rattle.source_model.specs.Disjoint.{DisjointDraws};
 ghost use Rattle.pair_frames.specs.Schemes.{schemeOf, Fits};
 ghost use Rattle.pair_model.specs.Scheme.{noFiles};
 ghost use Rattle.pair_model.specs.Base.{base};
 ghost use Rattle.pair_model.specs.Frame.{sharedParameters};
-ghost use Rattle.pair_model.specs.Sampler.{sampled, used};
+ghost use Rattle.pair_model.specs.Sampler.{sampled, nextPair};
 ghost use Rattle.pair_model.specs.Dealer.{dealt, dealNumber, dealSourceNumber, TakesAccepted};
 ghost use Rattle.pair_model.specs.Run.{protocol};
 ghost use Rattle.pair_model.specs.Theorem.{Privacy};
@@ -21,6 +22,8 @@ use pair_frames::sizes::INNER_ROOM;
 use pair_frames::sizes::KEY_ROOM;
 use pair_frames::sizes::Sizes;
 use pair_sampler::sampler::sample_sized;
+use source::drawing::Draw;
+use source::drawing::refused;
 
 // The bytes of the longest tape.
 const TAPE_ROOM: usize = 4 * KEY_ROOM + 4 * INNER_ROOM;
@@ -71,30 +74,14 @@ pub fn deal(session: u32, tape: &[u8], out: &mut [u8]) -> u32
     deal_sized(BASE, session, tape, out)
 }
 
-// A number, and the source bytes used.
-pub struct Dealt {
-    pub result: u32,
-    pub used: u64,
-}
-
-// A deal that is refused: no source byte counts as used.
-fn refused(number: u32) -> Dealt
-    ensures { λ d. ⌜ (d .result ≡ number) × (d .used ≡ 0) ⌝ }
-{
-    Dealt {
-        result: number,
-        used: 0,
-    }
-}
-
-// Deals the tape that the sampler makes of source bytes.
-fn deal_source_sized(sizes: Sizes, session: u32, source: &[u8], out: &mut [u8]) -> Dealt
+// Deals the tape that the sampler draws of source bytes from pair `start` on.
+fn deal_source_sized(sizes: Sizes, session: u32, start: u64, source: &[u8], out: &mut [u8]) -> Draw
     requires { ⌜ Fits sizes ⌝ }
-    ensures result { λ d. ⌜ d .result ≡ dealSourceNumber (schemeOf sizes) noFiles (now (source .entry)) (length (now (out .entry))) ⌝ }
-    ensures count { λ d. ⌜ d .used ≡ reported (d .result) (used (schemeOf sizes) (now (source .entry))) ⌝ }
+    ensures result { λ d. ⌜ d .result ≡ dealSourceNumber (schemeOf sizes) noFiles (now (source .entry)) start (length (now (out .entry))) ⌝ }
+    ensures next { λ d. ⌜ d .next ≡ reported (d .result) (nextPair (schemeOf sizes) (now (source .entry)) start) ⌝ }
     ensures output { λ d. ⌜
         now (out .exit) ≡
-        output (d .result) (dealt (schemeOf sizes) (sharedParameters session) noFiles (sampled (schemeOf sizes) (now (source .entry)))) (now (out .entry))
+        output (d .result) (dealt (schemeOf sizes) (sharedParameters session) noFiles (sampled (schemeOf sizes) (now (source .entry)) start)) (now (out .entry))
         ⌝ }
 {
     let key_bytes = sizes.key_bytes;
@@ -104,23 +91,22 @@ fn deal_source_sized(sizes: Sizes, session: u32, source: &[u8], out: &mut [u8]) 
         return refused(WRONG_LENGTH);
     }
     let mut tape = [0u8; TAPE_ROOM];
-    let s = sample_sized(sizes, source, &mut tape[..tape_bytes]);
-    if s.result != DONE {
-        return refused(s.result);
+    let d = sample_sized(sizes, start, source, &mut tape[..tape_bytes]);
+    if d.result == DONE {
+        write_deal(sizes, session, &tape[..tape_bytes], out);
     }
-    write_deal(sizes, session, &tape[..tape_bytes], out);
-    Dealt {
-        result: DONE,
-        used: s.used,
-    }
+    d
 }
 
-// The same at the sizes of document 01.
-pub fn deal_source(session: u32, source: &[u8], out: &mut [u8]) -> Dealt
-    ensures result { λ d. ⌜ d .result ≡ dealSourceNumber base noFiles (now (source .entry)) (length (now (out .entry))) ⌝ }
-    ensures count { λ d. ⌜ d .used ≡ reported (d .result) (used base (now (source .entry))) ⌝ }
-    ensures output { λ d. ⌜ now (out .exit) ≡ output (d .result) (dealt base (sharedParameters session) noFiles (sampled base (now (source .entry)))) (now (out .entry)) ⌝ }
+// The same at the sizes of document 01. Draws that follow one another share no pair.
+pub fn deal_source(session: u32, start: u64, source: &[u8], out: &mut [u8]) -> Draw
+    ensures result { λ d. ⌜ d .result ≡ dealSourceNumber base noFiles (now (source .entry)) start (length (now (out .entry))) ⌝ }
+    ensures next { λ d. ⌜ d .next ≡ reported (d .result) (nextPair base (now (source .entry)) start) ⌝ }
+    ensures output { λ d. ⌜
+        now (out .exit) ≡ output (d .result) (dealt base (sharedParameters session) noFiles (sampled base (now (source .entry)) start)) (now (out .entry))
+        ⌝ }
+    ensures disjoint { λ _. ⌜ DisjointDraws ⌝ }
     ensures privacy { λ _. ⌜ Privacy (protocol base) ⌝ }
 {
-    deal_source_sized(BASE, session, source, out)
+    deal_source_sized(BASE, session, start, source, out)
 }

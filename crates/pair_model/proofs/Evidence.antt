@@ -12,7 +12,6 @@ pub mod LeakyDealer
 pub mod Uneven
 pub mod Wrong
 pub mod WrongMask
-pub mod BytesE4
 pub mod Examples
 pub mod Sample
 pub mod Whole

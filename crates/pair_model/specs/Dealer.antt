@@ -10,7 +10,7 @@ use Rattle.numbers.specs.Number.{Condition, _when_, first, merge}
 use Rattle.pair_model.specs.Scheme.{Files, badLength, faultsIn, readingNumber, Scheme, Side, side0, side1}
 use Rattle.pair_model.specs.Tape.{tapeBytes, Accepted, unfitTape, deal}
 use Rattle.pair_model.specs.Frame.{SharedParameters, parametersOf, dealKind, frame, frameBytes}
-use Rattle.pair_model.specs.Sampler.{drawn, copiedBytes, wantedTrits}
+use Rattle.pair_model.specs.Sampler.{shortConditions}
 
 module _ (S : Scheme) where
   -- the deal frame of unit i
@@ -41,13 +41,12 @@ module _ (S : Scheme) where
       (lent : Files) → readingNumber (S .productReading) lent ≡ 0 → (tape : List ℕ) → ((i : ℕ) → getD tape i 0 < 256)
       → (dealNumber lent tape dealtBytes ≡ 0) ↔ Accepted S tape
 
-  -- over source bytes: the tape is what the sampler makes of them, and its trits are fit
-  unfoldable pub dealSourceConditions : Files → List ℕ → ℕ → List Condition
-  dealSourceConditions lent source outputLength =
+  -- over source bytes: the tape is what the sampler draws of them from pair s on, and its trits are fit
+  unfoldable pub dealSourceConditions : Files → List ℕ → (s outputLength : ℕ) → List Condition
+  dealSourceConditions lent source s outputLength =
       1 when ltb outputLength dealtBytes
       ∷ 1 when badLength (S .productReading) lent
-      ∷ merge (faultsIn (S .productReading) lent)
-      (13 when ltb (length source) (copiedBytes S) ∷ 13 when ltb (length (drawn S source .trits)) (wantedTrits S) ∷ [])
+      ∷ merge (faultsIn (S .productReading) lent) (shortConditions S source s)
 
-  abbrev pub dealSourceNumber : Files → List ℕ → ℕ → ℕ
-  dealSourceNumber lent source outputLength = first (dealSourceConditions lent source outputLength)
+  abbrev pub dealSourceNumber : Files → List ℕ → (s outputLength : ℕ) → ℕ
+  dealSourceNumber lent source s outputLength = first (dealSourceConditions lent source s outputLength)

@@ -1,16 +1,16 @@
 -- What shows that the statement is neither empty nor too weak.
-use Prim.Native.Nat.{ℕ, _<_}
+use Prim.Native.Nat.{ℕ}
 use mathlib.Core.Path.{_≡_}
 use mathlib.Core.List.{List, [], _∷_}
 use mathlib.Core.Bool.{true}
-use lib.ListN.{getD}
 use Rattle.numbers.specs.Number.{_when_, first}
 use Rattle.numbers.specs.Lowest.{Lowest}
+use Rattle.source_model.specs.Evidence.{DrawEvidence}
 use Rattle.pair_model.specs.Scheme.{Side, other}
 use Rattle.pair_model.specs.Tape.{Accepted}
 use Rattle.pair_model.specs.Unit.{idleStage, doneStage, takeDeal, takeOpen, step}
 use Rattle.pair_model.specs.Base.{base}
-use Rattle.pair_model.specs.Sampler.{sampled, sampleNumber}
+use Rattle.pair_model.specs.Sampler.{sampled}
 use Rattle.pair_model.specs.Dealer.{TakesAccepted}
 use Rattle.pair_model.specs.Run.{Protocol, protocol, Inputs, WellFormed, Run, runOf, Entry, SharedEntry, same, start, final, ListOf, firstOf, secondOf, Comparable}
 use Rattle.pair_model.specs.Theorem.{SameForFixed, Hides, Done, shareFrame, ownCode, Demand3}
@@ -45,8 +45,9 @@ pub record Evidence : Type 0 where
       ListOf P run (start P run) es → Comparable P fixed run run (start P run) (start P run) (shared es)
   -- the dealer takes exactly the accepted tapes, and the sampler makes such tapes
   pub dealer : TakesAccepted base
-  pub sampler : (source : List ℕ) → ((i : ℕ) → getD source i 0 < 256) → (outputLength : ℕ)
-      → sampleNumber base source outputLength ≡ 0 → Accepted base (sampled base source)
+  pub sampler : (source : List ℕ) (s : ℕ) → Accepted base (sampled base source s)
+  -- draws follow one another, and samplings that read a pair twice do not pass
+  pub draws : DrawEvidence
   -- the code tells no more than itself
   pub share : (fixed : Side) (a b : Inputs) → WellFormed base a → WellFormed base b → SameForFixed fixed a b → HidesShare (protocol base) fixed a b
   -- leaky and wrong protocols do not pass, in a scheme in which the protocol does; a step by the unit's own ways is the unit's

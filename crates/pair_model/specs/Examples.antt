@@ -8,7 +8,8 @@ use Rattle.linear_model.specs.Bits.{Bytes, zeros, bit}
 use Rattle.linear_model.specs.Trits.{trit, innerShare}
 use Rattle.matrix_model.specs.Block.{check, checkHolds}
 use Rattle.matrix_model.specs.File.{fileBytes, checkNumber}
-use Rattle.pair_model.specs.Sampler.{draw, sampleNumber, used}
+use Rattle.source_model.specs.Draw.{draw}
+use Rattle.pair_model.specs.Sampler.{sampleNumber, nextPair}
 use Rattle.pair_model.specs.Base.{base}
 
 -- where ŵ, r0 and r1 have these digits, the inner shares have those, and add to w modulo 3
@@ -36,8 +37,9 @@ pub record TwelveExamples : Type 0 where
   pub example6 : Shares 0 1 2 1 2 0
   pub example7 : tritsOf 0xE4 ≡ 0 ∷ 1 ∷ 2 ∷ []
   pub example8 : tritsOf 0xFF ≡ []
-  pub example9 : (front : List ℕ) → length front ≡ 192 → (used base (bytesE4 front 86) ≡ 278) × (sampleNumber base (bytesE4 front 86) 256 ≡ 0)
-  pub example10 : (front : List ℕ) → length front ≡ 192 → sampleNumber base (bytesE4 front 85) 256 ≡ 13
+  -- from pair 0 on; W-201 reports the next pair, in byte 277, in place of 278 bytes
+  pub example9 : (front : List ℕ) → length front ≡ 192 → (nextPair base (bytesE4 front 86) 0 ≡ 1109) × (sampleNumber base (bytesE4 front 86) 0 256 ≡ 0)
+  pub example10 : (front : List ℕ) → length front ≡ 192 → sampleNumber base (bytesE4 front 85) 0 256 ≡ 13
   pub example11 : check (1 ∷ zeros 509) ≡ 1 ∷ 0 ∷ []
   -- its check holds, and a file of such blocks gets 9
   pub example12 : (checkHolds (zeros 512) ≡ true) × (checkNumber (zeros fileBytes) ≡ 9)

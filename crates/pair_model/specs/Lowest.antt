@@ -1,4 +1,4 @@
--- The number of every call is the lowest whose condition holds, over all inputs that the call reads; n is the output slice's length.
+-- The number of every call is the lowest whose condition holds, over all inputs that the call reads; s is a starting pair, n the output slice's length.
 use Prim.Native.Nat.{ℕ}
 use mathlib.Core.List.{List}
 use Rattle.numbers.specs.Lowest.{Lowest}
@@ -19,8 +19,8 @@ pub record LowestNumbers : Type 0 where
   pub evaluates : (key label : List ℕ) (lent : Files) (n : ℕ) → Lowest (evaluateConditions base key label lent n) (evaluateNumber base key label lent n)
   -- the dealer, of a tape and of source bytes, and the sampler
   pub deals : (lent : Files) (tape : List ℕ) (n : ℕ) → Lowest (dealConditions base lent tape n) (dealNumber base lent tape n)
-  pub deals-source : (lent : Files) (source : List ℕ) (n : ℕ) → Lowest (dealSourceConditions base lent source n) (dealSourceNumber base lent source n)
-  pub samples : (source : List ℕ) (n : ℕ) → Lowest (sampleConditions base source n) (sampleNumber base source n)
+  pub deals-source : (lent : Files) (source : List ℕ) (s n : ℕ) → Lowest (dealSourceConditions base lent source s n) (dealSourceNumber base lent source s n)
+  pub samples : (source : List ℕ) (s n : ℕ) → Lowest (sampleConditions base source s n) (sampleNumber base source s n)
   -- the unit: its beginning and its step, and both over a slice
   pub begins : (t : Parameters) (key label : List ℕ) → Lowest (beginConditions base t key label) (begin base t key label .result)
   pub begins-slice : (t : Parameters) (key label s : List ℕ) → Lowest (pairBeginConditions base t key label s) (pairBeginNumber base t key label s)

@@ -1,3 +1,3 @@
 pub mod Gathering
-pub mod Draws
+pub mod Planes
 pub mod Samples

@@ -1,82 +1,68 @@
--- The sampler's number and what it writes, by what its reader has found, at any sizes.
-use mathlib.Core.Path.{_≡_, refl, sym, ap, ap₂, _∙_}
+-- The sampler's number and what it writes, by what was drawn, at any sizes.
+use mathlib.Core.Path.{_≡_, refl, sym, ap, _∙_}
+use mathlib.Core.Logic.{_≢_}
 use mathlib.Core.List.{List, [], _++_, append-nil, append-assoc}
 use Prim.Native.Nat.{ℕ, _+_, _-_, _*_, _<_, _≤_}
 use native.Mathlib.Omega.{arith}
 use borrow.Author.Tests.{lt-ltb, le-ltb}
-use lib.ListN.{length, take, drop, length-take, length-drop, drop-of-length-le}
-use lib.Seq.{length-take-le, drop-drop, getD-take}
+use lib.ListN.{length, take, drop, length-take, length-drop, length-append, drop-of-length-le, take-append-drop}
+use lib.Seq.{length-take-le, drop-drop, take-at, drop-at}
+use Rattle.numbers.specs.Number.{first, output, reported}
+use Rattle.numbers.proofs.Outputs.{output-refused, output-whole}
 use Rattle.linear_model.specs.Trits.{packTrits}
-use Rattle.linear_model.proofs.Vectors.{packTrits-ext, length-packTrits}
-use Rattle.linear_model.proofs.Copies.{pasted, copied-first, copied-more}
-use Rattle.numbers.specs.Number.{first, output}
+use Rattle.linear_model.proofs.Vectors.{length-packTrits}
+use Rattle.source_model.specs.Draw.{copied, tritOf, drawn, tapeFrom, sourceNumber}
+use Rattle.source_model.proofs.Copied.{length-copied}
 use Rattle.pair_model.specs.Scheme.{Scheme}
 use Rattle.pair_model.specs.Tape.{tapeBytes}
-use Rattle.pair_model.specs.Sampler.{tritOf, Drawn, draw, drawn, copiedBytes, wantedTrits, sampled, sampleConditions, sampleNumber}
-use Rattle.pair_sampler.specs.Drawing.{drawnFrom}
-
--- what the definition draws, as a reader does that stands after the copied bytes and wants 8 trits for each inner byte
-pub drawn-is : (S : Scheme) (s : List ℕ) (k i : ℕ) → S .keyBytes ≡ k → S .innerBytes ≡ i → drawn S s ≡ drawnFrom s (8 * i) (4 * (4 * k + 2 * i) + 0)
-unfolding drawn
-drawn-is S s k i e f =
-    let c : 4 * copiedBytes S ≡ 4 * (4 * k + 2 * i) + 0 = omega arith in
-    let l : 4 * (length s - copiedBytes S) ≡ 4 * length s - (4 * (4 * k + 2 * i) + 0) = omega arith in
-    let w : wantedTrits S ≡ 8 * i = omega arith in
-    ap {B = Drawn} (λ (x : ℕ × ℕ × ℕ). draw s (x .0) (x .1) (x .2)) (λ t. (w t, l t, c t))
-
--- so too few trits and enough of them are what the definition says
-pub drawn-few : (S : Scheme) (s : List ℕ) (k i : ℕ) → S .keyBytes ≡ k → S .innerBytes ≡ i
-    → length (drawnFrom s (8 * i) (4 * (4 * k + 2 * i) + 0) .trits) < 8 * i → length (drawn S s .trits) < wantedTrits S
-drawn-few S s k i e f h = rw (drawn-is S s k i e f) (omega arith)
-
-pub drawn-enough : (S : Scheme) (s : List ℕ) (k i : ℕ) → S .keyBytes ≡ k → S .innerBytes ≡ i → (t : List ℕ) → 8 * i ≤ length t
-    → drawnFrom s (8 * i) (4 * (4 * k + 2 * i) + 0) .trits ≡ take (8 * i) t → wantedTrits S ≤ length (drawn S s .trits)
-drawn-enough S s k i e f t h q = rw (drawn-is S s k i e f, q) (omega (arith, length-take-le (8 * i) t h))
+use Rattle.pair_model.specs.Sampler.{copiedBytes, wantedTrits, sampled, nextPair, sampleConditions, sampleNumber}
 
 -- a part of a string has its length
 pub part-long : (c m : ℕ) (o : List ℕ) → c + m ≤ length o → m ≤ length (take (c + m - c) (drop c o))
 part-long c m o h = simp (length-take, length-drop) (omega arith)
 
-module _ (S : Scheme) (s : List ℕ) where
-  module _ (n : ℕ) where
-    pub sample-output : n < tapeBytes S → 1 ≡ sampleNumber S s n
+module _ (S : Scheme) (s : List ℕ) (start : ℕ) where
+  -- too short an output slice
+  pub sample-output : (n : ℕ) → n < tapeBytes S → 1 ≡ sampleNumber S s start n
+  unfolding first sampleConditions
+  sample-output n h = simp (lt-ltb n (tapeBytes S) h)
+
+  -- a draw of c copied bytes and w trits is the scheme's
+  module _ {c w : ℕ} (ec : c ≡ copiedBytes S) (ew : w ≡ wantedTrits S) where
+    pub sample-number : (n r : ℕ) → tapeBytes S ≤ n → r ≡ sourceNumber c w s start → r ≡ sampleNumber S s start n
     unfolding first sampleConditions
-    sample-output h = simp (lt-ltb n (tapeBytes S) h)
+    sample-number n r h e = e ∙ (λ i. sourceNumber (ec i) (ew i) s start) ∙ rw (le-ltb n (tapeBytes S) h)
 
-    module _ (h : tapeBytes S ≤ n) where
-      pub sample-source : length s < copiedBytes S → 13 ≡ sampleNumber S s n
-      unfolding first sampleConditions
-      sample-source l = simp (le-ltb n (tapeBytes S) h, lt-ltb (length s) (copiedBytes S) l)
+    pub sample-next : (r v : ℕ) → v ≡ reported r (drawn c w s start .next) → v ≡ reported r (nextPair S s start)
+    unfolding nextPair
+    sample-next r v e = e ∙ (λ i. reported r (drawn (ec i) (ew i) s start .next))
 
-      pub sample-few : copiedBytes S ≤ length s → length (drawn S s .trits) < wantedTrits S → 13 ≡ sampleNumber S s n
-      unfolding first sampleConditions
-      sample-few l m = simp (le-ltb n (tapeBytes S) h, le-ltb (length s) (copiedBytes S) l, lt-ltb (length (drawn S s .trits)) (wantedTrits S) m)
+    -- a refusal leaves the part that was lent, and so all
+    pub sample-refused : (k r : ℕ) (d o : List ℕ) → r ≢ 0 → o ≡ output r (copied c s start) (take k d) → o ++ drop k d ≡ output r (sampled S s start) d
+    sample-refused k r d o n e =
+        ap (λ (x : List ℕ). x ++ drop k d) (e ∙ sym (output-refused r (copied c s start) (take k d) n)) ∙ take-append-drop k d
+        ∙ output-refused r (sampled S s start) d n
 
-      pub sample-done : copiedBytes S ≤ length s → wantedTrits S ≤ length (drawn S s .trits) → 0 ≡ sampleNumber S s n
-      unfolding first sampleConditions
-      sample-done l m = simp (le-ltb n (tapeBytes S) h, le-ltb (length s) (copiedBytes S) l, le-ltb (length (drawn S s .trits)) (wantedTrits S) m)
-
--- the copied bytes, then the planes of the trits: c bytes and the 2 × i after them
-pub sample-written : (S : Scheme) (s : List ℕ) (k i : ℕ) → S .keyBytes ≡ k → S .innerBytes ≡ i → (t d o v : List ℕ)
-    → 4 * k + 2 * i ≤ length s → 4 * k + 2 * i + 2 * i ≤ length d → drawnFrom s (8 * i) (4 * (4 * k + 2 * i) + 0) .trits ≡ take (8 * i) t
-    → o ≡ pasted 0 (take (4 * k + 2 * i) s) d
-    → v ≡ packTrits i (tritOf t) ++ drop (2 * i) (take (4 * k + 2 * i + 2 * i - (4 * k + 2 * i)) (drop (4 * k + 2 * i) o))
-    → take (4 * k + 2 * i) o ++ (v ++ drop (4 * k + 2 * i + 2 * i - (4 * k + 2 * i)) (drop (4 * k + 2 * i) o)) ≡ output 0 (sampled S s) d
-unfolding output sampled
-sample-written S s k i e f t d o v l m q eo ev =
-    let c = 4 * k + 2 * i in
-    let n : c + 2 * i - c ≡ 2 * i = omega arith in
-    let copied : copiedBytes S ≡ c = omega arith in
-    let long : length (take c s) ≡ c = length-take-le c s l in
-    let planes : packTrits i (tritOf t) ≡ packTrits i (tritOf (take (8 * i) t)) = packTrits-ext i _ _ (λ j h. sym (getD-take (8 * i) t j 0 h)) in
-    let only : v ≡ packTrits i (tritOf t) =
-    ev ∙ ap (λ (x : List ℕ). packTrits i (tritOf t) ++ x) (drop-of-length-le (take (c + 2 * i - c) (drop c o)) {i = 2 * i} (rw n (omega (arith, length-take (2 * i) (drop c o)))))
-    ∙ append-nil (packTrits i (tritOf t)) in
-    let size : length v ≡ 2 * i = ap length only ∙ length-packTrits i (tritOf t) in
-    let past : drop (c + 2 * i - c) (drop c o) ≡ drop (c + length v) o =
-    ap (λ (x : ℕ). drop x (drop c o)) n ∙ drop-drop (2 * i) c o ∙ ap (λ (x : ℕ). drop (c + x) o) (sym size) in
-    let whole = copied-more c (take c s) v o (pasted c v o) (copied-first {d = d} (take c s) o (omega arith) eo) (sym long) (omega arith) refl in
-    let tape : take (copiedBytes S) s ++ packTrits (S .innerBytes) (tritOf (drawn S s .trits)) ≡ take c s ++ v =
-    ap₂ (λ (x y : List ℕ). x ++ y) (ap (λ (x : ℕ). take x s) copied)
-    (ap₂ (λ (x : ℕ) (y : List ℕ). packTrits x (tritOf y)) f (ap (λ (x : Drawn). x .trits) (drawn-is S s k i e f) ∙ q) ∙ sym planes ∙ sym only) in
-    ap (λ (x : List ℕ). take c o ++ (v ++ x)) past ∙ sym (append-assoc (take c o) v (drop (c + length v) o)) ∙ whole .is ∙ ap (λ (x : List ℕ). x ++ drop (length x) d) (sym tape)
+    -- the copied bytes in the first k, then the planes of the trits in the 2 × m after them
+    module _ (k m : ℕ) (ek : c ≡ k) (em : S .innerBytes ≡ m) (d : List ℕ) (room : k + 2 * m ≤ length d) where
+      pub sample-written : (r : ℕ) (t o v : List ℕ) → r ≡ 0 → o ≡ output r (copied c s start) (take k d) → t ≡ drawn c w s start .trits
+          → v ≡ packTrits m (tritOf t) ++ drop (2 * m) (take (k + 2 * m - k) (drop k (o ++ drop k d)))
+          → take k (o ++ drop k d) ++ (v ++ drop (k + 2 * m - k) (drop k (o ++ drop k d))) ≡ output r (sampled S s start) d
+      unfolding output sampled tapeFrom
+      sample-written r t o v z eo et ev =
+          let x = copied c s start in
+          let p = packTrits m (tritOf t) in
+          let n : k + 2 * m - k ≡ 2 * m = omega arith in
+          let lx : length x ≡ k = length-copied c s start ∙ ek in
+          let front : o ≡ x = eo ∙ ap (λ (y : ℕ). output y x (take k d)) z ∙ output-whole x (take k d) (omega (arith, length-take k d)) in
+          let lo : length o ≡ k = ap length front ∙ lx in
+          let behind : drop k (o ++ drop k d) ≡ drop k d = drop-at o (drop k d) k lo in
+          let only : v ≡ p =
+          ev ∙ (λ i. p ++ drop (2 * m) (take (n i) (behind i)))
+          ∙ ap (λ (y : List ℕ). p ++ y) (drop-of-length-le (take (2 * m) (drop k d)) {i = 2 * m} (omega (arith, length-take (2 * m) (drop k d)))) ∙ append-nil p in
+          let tape : sampled S s start ≡ x ++ p =
+          (λ i. copied (sym ec i) s start ++ packTrits (em i) (tritOf (drawn (sym ec i) (sym ew i) s start .trits))) ∙ ap (λ (y : List ℕ). x ++ packTrits m (tritOf y)) (sym et) in
+          let long : k + 2 * m ≡ length (x ++ p) = sym (length-append x p ∙ (λ i. lx i + length-packTrits m (tritOf t) i)) in
+          (λ i. take-at o (drop k d) k lo i ++ (only i ++ drop (n i) (behind i))) ∙ ap (λ (y : List ℕ). o ++ (p ++ y)) (drop-drop (2 * m) k d)
+          ∙ (λ i. front i ++ (p ++ drop (long i) d)) ∙ sym (append-assoc x p (drop (length (x ++ p)) d)) ∙ ap (λ (y : List ℕ). y ++ drop (length y) d) (sym tape)
+          ∙ ap (λ (y : ℕ). output y (sampled S s start) d) (sym z)

@@ -1,4 +1,3 @@
 // The sampler: a tape from source bytes.
-pub mod drawing;
 pub mod packing;
 pub mod sampler;

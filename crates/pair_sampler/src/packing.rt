@@ -5,8 +5,8 @@ ghost use Prim.Native.Nat.{ℕ, _+_, _*_, _%_, _<_, _≤_};
 ghost use lib.ListN.{length, getD, drop};
 ghost use Rattle.linear_model.specs.Bits.{bitAt, fromBits, byteOf};
 ghost use Rattle.linear_model.specs.Trits.{packTrits};
-ghost use Rattle.pair_model.specs.Sampler.{tritOf};
-ghost use Rattle.pair_sampler.specs.Drawing.{planeBit};
+ghost use Rattle.source_model.specs.Draw.{tritOf};
+ghost use Rattle.pair_sampler.specs.Planes.{planeBit};
 use linear_words::words::word;
 
 // Bit `h` of each of a word's bytes, all below 4, in a byte. The bytes' upper half is laid between the bits of the lower one, so that

@@ -3,11 +3,12 @@
 ghost use mathlib.Core.Path.{_≡_};
 ghost use lib.ListN.{length};
 ghost use Rattle.numbers.specs.Number.{output, reported};
+ghost use Rattle.source_model.specs.Disjoint.{DisjointDraws};
 ghost use Rattle.matrix_model.specs.File.{checkNumber, readNumber, writeNumber, readOutput, writeOutput};
 ghost use Rattle.pair_model.specs.Scheme.{files, noFiles};
 ghost use Rattle.pair_model.specs.Base.{base};
 ghost use Rattle.pair_model.specs.Frame.{sharedParameters};
-ghost use Rattle.pair_model.specs.Sampler.{sampled, used, sampleNumber};
+ghost use Rattle.pair_model.specs.Sampler.{sampled, nextPair, sampleNumber};
 ghost use Rattle.pair_model.specs.Dealer.{dealt, dealNumber, dealSourceNumber, TakesAccepted};
 ghost use Rattle.pair_model.specs.Run.{protocol};
 ghost use Rattle.pair_model.specs.Theorem.{Privacy};
@@ -62,16 +63,17 @@ pub extern "C" fn pair_evaluate(key: &[u8], label: &[u8], file: &[u8], out: &mut
     evaluate(key, label, file, out)
 }
 
-// A tape from source bytes, and the bytes used.
+// A tape from source bytes, drawn from a starting pair on, and the next unread pair.
 #[no_mangle]
-pub extern "C" fn pair_sample(source: &[u8], out: &mut [u8], count: &mut u64) -> u32
-    ensures result { λ r. ⌜ r ≡ sampleNumber base (now (source .entry)) (length (now (out .entry))) ⌝ }
-    ensures count { λ r. ⌜ now (count .exit) ≡ reported r (used base (now (source .entry))) ⌝ }
-    ensures output { λ r. ⌜ now (out .exit) ≡ output r (sampled base (now (source .entry))) (now (out .entry)) ⌝ }
+pub extern "C" fn pair_sample(start: u64, source: &[u8], out: &mut [u8], next: &mut u64) -> u32
+    ensures result { λ r. ⌜ r ≡ sampleNumber base (now (source .entry)) start (length (now (out .entry))) ⌝ }
+    ensures next { λ r. ⌜ now (next .exit) ≡ reported r (nextPair base (now (source .entry)) start) ⌝ }
+    ensures output { λ r. ⌜ now (out .exit) ≡ output r (sampled base (now (source .entry)) start) (now (out .entry)) ⌝ }
+    ensures disjoint { λ _. ⌜ DisjointDraws ⌝ }
 {
-    let s = sample(source, out);
-    *count = s.used;
-    s.result
+    let d = sample(start, source, out);
+    *next = d.next;
+    d.result
 }
 
 // Both deal frames of a tape.
@@ -85,23 +87,25 @@ pub extern "C" fn pair_deal(session: u32, tape: &[u8], out: &mut [u8]) -> u32
     deal(session, tape, out)
 }
 
-// Both deal frames from source bytes, and the bytes used.
+// Both deal frames from source bytes, drawn from a starting pair on, and the next unread pair.
 #[no_mangle]
 pub extern "C" fn pair_deal_source(
     session: u32,
+    start: u64,
     source: &[u8],
     out: &mut [u8],
-    count: &mut u64,
+    next: &mut u64,
 ) -> u32
-    ensures result { λ r. ⌜ r ≡ dealSourceNumber base noFiles (now (source .entry)) (length (now (out .entry))) ⌝ }
-    ensures count { λ r. ⌜ now (count .exit) ≡ reported r (used base (now (source .entry))) ⌝ }
+    ensures result { λ r. ⌜ r ≡ dealSourceNumber base noFiles (now (source .entry)) start (length (now (out .entry))) ⌝ }
+    ensures next { λ r. ⌜ now (next .exit) ≡ reported r (nextPair base (now (source .entry)) start) ⌝ }
     ensures output { λ r. ⌜
-        now (out .exit) ≡ output r (dealt base (sharedParameters session) noFiles (sampled base (now (source .entry)))) (now (out .entry))
+        now (out .exit) ≡ output r (dealt base (sharedParameters session) noFiles (sampled base (now (source .entry)) start)) (now (out .entry))
         ⌝ }
+    ensures disjoint { λ _. ⌜ DisjointDraws ⌝ }
     ensures privacy { λ _. ⌜ Privacy (protocol base) ⌝ }
 {
-    let d = deal_source(session, source, out);
-    *count = d.used;
+    let d = deal_source(session, start, source, out);
+    *next = d.next;
     d.result
 }
 

@@ -1,2 +1,4 @@
-// The random source, read two bits at a time.
+// A random source: its reader of pairs, bytes copied from any pair on, and draws.
+pub mod copying;
+pub mod drawing;
 pub mod reader;

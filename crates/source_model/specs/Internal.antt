@@ -1,2 +1,3 @@
--- What only the reader's contracts cite.
+-- What only contracts of the functions over a source cite.
 pub mod Reading
+pub mod Drawing

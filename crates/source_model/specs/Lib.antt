@@ -1,2 +1,5 @@
 pub mod Pair
+pub mod Draw
+pub mod Disjoint
+pub mod Evidence
 pub mod Internal

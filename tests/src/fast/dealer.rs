@@ -55,16 +55,16 @@ pub fn deal(session: u32, tape: &[u8], out: &mut [u8]) -> u32 {
     0
 }
 
-/// Both deal frames of the tape that the sampler makes of source bytes, and how
-/// many it took.
+/// Both deal frames of the tape that the sampler makes of a source's pairs from a
+/// start on, and the next unread pair.
 #[inline(never)]
-pub fn deal_source(session: u32, source: &[u8], out: &mut [u8], used: &mut u64) -> u32 {
-    *used = 0;
+pub fn deal_source(session: u32, start: u64, source: &[u8], out: &mut [u8], next: &mut u64) -> u32 {
+    *next = 0;
     let Some(out) = out.first_chunk_mut() else {
         return WRONG_LENGTH;
     };
     let mut tape = [0; TAPE_BYTES];
-    let number = sample(source, &mut tape, used);
+    let number = sample(start, source, &mut tape, next);
     if number == 0 {
         write_deal(session, &tape, out);
     }

@@ -91,30 +91,51 @@ fn the_fast_dealer_gives_the_reference() {
         compare(&mut random, "deal", [&tape], room, &expected, |[tape], out| {
             dealer::deal(session, tape, out)
         });
+    }
+    report("fast: dealer", count);
+}
 
+/// A start near the beginning, in the source, near its last ones that may be
+/// accepted, near its end, or any.
+fn any_start(random: &mut Random, length: usize) -> u64 {
+    let pairs = 4 * length;
+    match random.below(8) {
+        0 => random.below(pairs + 8) as u64,
+        1 => (pairs.saturating_sub(1_024) + random.below(8)) as u64,
+        2 => (pairs + random.below(3)) as u64,
+        3 => random.word() >> random.below(64),
+        4 => u64::MAX - random.below(1_030) as u64,
+        _ => random.below(8) as u64,
+    }
+}
+
+#[test]
+fn the_fast_sampler_gives_the_reference() {
+    let mut random = Random::for_test("fast sampler");
+    let count = 3_000;
+    // Of each residue of the start.
+    let mut accepted = [0; 4];
+    for _ in 0..count {
         // About 342 bytes suffice: some sources are too short.
         let length = [nearly(&mut random, 342), nearly(&mut random, 192)][random.below(2)];
-        let source = random.contents(length);
-        let expected = reference::dealer::sample(&source, room);
-        compare_counted(
-            &mut random,
-            "sample",
-            [&source],
-            room,
-            &expected,
-            |[source], out, used| sampler::sample(source, out, used),
-        );
-        let expected = reference::dealer::deal_source(session, &source, room);
-        compare_counted(
-            &mut random,
-            "deal source",
-            [&source],
-            room,
-            &expected,
-            |[source], out, used| dealer::deal_source(session, source, out, used),
-        );
+        let (source, start) = (random.contents(length), any_start(&mut random, length));
+        let room = nearly(&mut random, 256);
+        let expected = reference::dealer::sample(start, &source, room);
+        accepted[(start % 4) as usize] += usize::from(expected.number == DONE);
+        let (name, inputs) = ("sample", [&source[..]]);
+        compare_counted(&mut random, name, inputs, room, &expected, |[source], out, next| {
+            sampler::sample(start, source, out, next)
+        });
+
+        let (session, room) = (random.session(), nearly(&mut random, 332));
+        let expected = reference::dealer::deal_source(session, start, &source, room);
+        let name = "deal source";
+        compare_counted(&mut random, name, inputs, room, &expected, |[source], out, next| {
+            dealer::deal_source(session, start, source, out, next)
+        });
     }
-    report("fast: dealer and sampler", count);
+    assert!(accepted.iter().all(|n| *n > count / 100), "accepted {accepted:?} at the residues");
+    report("fast: sampler and dealer of a source", count);
 }
 
 #[test]

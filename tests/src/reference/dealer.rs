@@ -1,4 +1,5 @@
-//! "Tape and deal": the tape's parts, the deals, the dealer and the sampler.
+//! "Tape and deal": the tape's parts, the deals, the dealer, and the sampler of
+//! document 02.
 
 use super::bits::{add, multiply, part, STRING_BYTES};
 use super::frame::{frame_of, DEAL};
@@ -9,6 +10,8 @@ use super::trits::{pack_trits, subtract_trits, trits_fit};
 pub const TAPE_BYTES: usize = 256;
 /// "The first 192, for all that stands before r0"
 pub const COPIED_BYTES: usize = 192;
+/// "768 pairs"
+pub const COPIED_PAIRS: usize = 4 * COPIED_BYTES;
 /// "an inner trit vector 64 bytes"
 pub const VECTOR_BYTES: usize = 64;
 /// "332 bytes"
@@ -137,41 +140,66 @@ pub fn deal(session: u32, tape: &[u8], room: usize) -> Answer {
     Answer::unless(&conditions, || deal_frames(session, tape))
 }
 
-/// "It also deals from source bytes, the tape being what the sampler makes of
-/// them, and then reports the sampler's count."
-pub fn deal_source(session: u32, source: &[u8], room: usize) -> Answer {
+/// "The dealer's form over source bytes follows": the tape is "what the sampler
+/// makes of them", from this start on, and it "reports the next unread pair".
+pub fn deal_source(session: u32, start: u64, source: &[u8], room: usize) -> Answer {
     if room < DEALT_BYTES {
         return Answer::refused(WRONG_LENGTH);
     }
-    let sampled = sample(source, TAPE_BYTES);
+    let sampled = sample(start, source, TAPE_BYTES);
     match sampled.number {
         0 => Answer { count: sampled.count, ..deal(session, &sampled.bytes, room) },
         number => Answer::refused(number),
     }
 }
 
-/// "Each later byte gives four pairs of bits, lowest first; pairs of value 3
-/// are skipped": the trits of a source, each with the number of its byte.
-fn source_trits(source: &[u8]) -> Vec<(u8, usize)> {
-    let later = source.iter().enumerate().skip(COPIED_BYTES);
-    let pairs = later.flat_map(|(place, byte)| (0..4).map(move |k| (byte >> (2 * k) & 3, place)));
-    pairs.filter(|pair| pair.0 != 3).take(VECTOR_TRITS).collect()
+/// "four pairs of bits, lowest first", of each byte in turn: pair k of a source
+/// is bits 2k and 2k + 1.
+pub fn pairs_of(source: &[u8]) -> Vec<u8> {
+    source.iter().flat_map(|byte| (0..4).map(move |k| byte >> (2 * k) & 3)).collect()
 }
 
-/// "The sampler makes a tape from source bytes. The first 192 are copied", the
-/// others "are the trits of r0 in turn. It reports the bytes used, the byte of
-/// the last trit included."
-pub fn sample(source: &[u8], room: usize) -> Answer {
-    let trits = source_trits(source);
-    let short = source.len() < COPIED_BYTES || trits.len() < VECTOR_TRITS;
-    let conditions = [(WRONG_LENGTH, room < TAPE_BYTES), (SHORT_SOURCE, short)];
-    let trit_at = |j: usize| trits.get(j).map_or(0, |pair| pair.0);
+/// "lowest first": the bytes that these pairs are, four to a byte.
+pub fn bytes_of(pairs: &[u8]) -> Vec<u8> {
+    let byte = |four: &[u8]| four.iter().rev().fold(0, |byte, pair| 4 * byte + pair);
+    pairs.chunks(4).map(byte).collect()
+}
+
+/// The pairs of a source from a start on; none where it begins past the end.
+fn pairs_from(source: &[u8], start: u64) -> Vec<u8> {
+    let pairs = pairs_of(source);
+    let start = usize::try_from(start).unwrap_or(usize::MAX);
+    pairs.get(start..).unwrap_or(&[]).to_vec()
+}
+
+/// "a source of 2^62 bytes or more (64 bits would not count its pairs)"
+pub fn uncounted(bytes: usize) -> bool {
+    bytes as u64 >= 1 << 62
+}
+
+/// "pairs of value 3 are skipped and the others are the trits of r0 in turn":
+/// the trits of these pairs, each with the place of its pair.
+fn trits_of(pairs: &[u8]) -> Vec<(usize, u8)> {
+    let places = pairs.iter().copied().enumerate();
+    places.filter(|(_, pair)| *pair != 3).take(VECTOR_TRITS).collect()
+}
+
+/// "The sampler shall take a starting pair and report the next unread pair. The
+/// 192 copied bytes are then 768 pairs, lowest first." The trits are drawn from
+/// the pairs after those, and places are counted from the source's beginning.
+pub fn sample(start: u64, source: &[u8], room: usize) -> Answer {
+    let pairs = pairs_from(source, start);
+    let (copied, later) = pairs.split_at(COPIED_PAIRS.min(pairs.len()));
+    let trits = trits_of(later);
+    let short = copied.len() < COPIED_PAIRS || trits.len() < VECTOR_TRITS;
+    let conditions =
+        [(WRONG_LENGTH, room < TAPE_BYTES), (SHORT_SOURCE, uncounted(source.len()) || short)];
+    let trit_at = |j: usize| trits.get(j).map_or(0, |(_, trit)| *trit);
     let mut answer = Answer::unless(&conditions, || {
-        let copied = part(source, 0, COPIED_BYTES);
-        [copied, pack_trits(STRING_BYTES, trit_at)].concat()
+        [bytes_of(copied), pack_trits(STRING_BYTES, trit_at)].concat()
     });
-    if answer.number == 0 {
-        answer.count = trits.last().map_or(0, |pair| pair.1 as u64 + 1);
+    if let (0, Some((last, _))) = (answer.number, trits.last()) {
+        answer.count = start + (COPIED_PAIRS + last + 1) as u64;
     }
     answer
 }

@@ -1,7 +1,8 @@
-//! The twelve "Proved examples" of document 01 and the program's sample.
+//! The twelve "Proved examples" of document 01, those of document 02, and the
+//! program's sample.
 
 use super::bits::{bit, circulant_product};
-use super::dealer::{sample, tape_accepted};
+use super::dealer::{sample, tape_accepted, uncounted};
 use super::matrix::{block_sums, check_differs, file_of_rows, layout_differs, matrix_check};
 use super::numbers::{lowest, BLOCK_CHECK, BLOCK_LAYOUT, SHORT_SOURCE};
 use super::program::{program, Inputs};
@@ -54,7 +55,7 @@ fn source_of(byte: u8, times: usize) -> Vec<u8> {
 
 #[test]
 fn example_7_source_byte_e4_gives_0_1_2() {
-    let answer = sample(&source_of(0xe4, 86), 256);
+    let answer = sample(0, &source_of(0xe4, 86), 256);
     for j in 0..256 {
         assert_eq!(usize::from(trit(&answer.bytes[192..], 32, j)), j % 3);
     }
@@ -62,27 +63,76 @@ fn example_7_source_byte_e4_gives_0_1_2() {
 
 #[test]
 fn example_8_source_byte_ff_gives_none() {
-    assert_eq!(sample(&source_of(0xff, 5000), 256).number, SHORT_SOURCE);
+    assert_eq!(sample(0, &source_of(0xff, 5000), 256).number, SHORT_SOURCE);
     let skipped = [source_of(0xff, 100), vec![0xe4; 86]].concat();
-    let answer = sample(&skipped, 256);
-    assert_eq!((answer.number, answer.count), (0, 378));
-    assert_eq!(answer.bytes, sample(&source_of(0xe4, 86), 256).bytes);
+    let answer = sample(0, &skipped, 256);
+    assert_eq!((answer.number, answer.count), (0, 1_109 + 400));
+    assert_eq!(answer.bytes, sample(0, &source_of(0xe4, 86), 256).bytes);
 }
 
+/// "Start 0 on the 278-byte example gives the same tape and reports 1,109."
 #[test]
-fn example_9_bytes_used() {
-    let answer = sample(&source_of(0xe4, 86), 256);
-    assert_eq!((answer.number, answer.count), (0, 278));
+fn example_9_next_unread_pair() {
+    let source = source_of(0xe4, 86);
+    assert_eq!(source.len(), 278);
+    let answer = sample(0, &source, 256);
+    assert_eq!((answer.number, answer.count), (0, 1_109));
+    let vector = pack_trits(32, |j| (j % 3) as u8);
+    assert_eq!(answer.bytes, [vec![0; 192], vector].concat());
     assert!(tape_accepted(&answer.bytes));
-    let longer = sample(&source_of(0xe4, 600), 256);
+    let longer = sample(0, &source_of(0xe4, 600), 256);
     assert_eq!(longer, answer);
 }
 
 #[test]
 fn example_10_short_source() {
-    let answer = sample(&source_of(0xe4, 85), 256);
+    let answer = sample(0, &source_of(0xe4, 85), 256);
     assert_eq!((answer.number, answer.count), (13, 0));
     assert!(answer.bytes.is_empty());
+}
+
+/// The 278-byte example from other starts. 344 is the last that leaves 768 pairs.
+#[test]
+fn starts_of_the_example() {
+    let source = source_of(0xe4, 86);
+    let ends = |start| {
+        let answer = sample(start, &source, 256);
+        (answer.number, answer.count)
+    };
+    assert_eq!([0, 1, 2].map(ends), [(0, 1_109), (0, 1_110), (0, 1_111)]);
+    for start in [3, 4, 344, 345, 1_112, 1_113, 1 << 62, 1 << 63, u64::MAX] {
+        assert_eq!(ends(start), (13, 0), "start {start}");
+    }
+}
+
+/// Copied byte i is pairs 4i to 4i + 3 from the start on. Of pairs 0, 1, 2, 3 in
+/// turn E4 begins with the 0, 39 with the 1, 4E with the 2, 93 with the 3.
+#[test]
+fn copied_bytes_begin_inside_a_byte() {
+    for (start, byte) in [(0, 0xe4), (1, 0x39), (2, 0x4e), (3, 0x93), (4, 0xe4)] {
+        let answer = sample(start, &[0xe4; 300], 256);
+        assert_eq!(answer.number, 0);
+        assert_eq!(answer.bytes[..192], [byte; 192], "start {start}");
+    }
+}
+
+/// "A draw begun where an accepted one ended shares no pair with it."
+#[test]
+fn the_example_twice() {
+    let once = source_of(0xe4, 86);
+    let source = [&once[..], &once, &[0xe4; 10]].concat();
+    assert_eq!(sample(0, &source, 256), sample(0, &once, 256));
+    let second = sample(1_109, &source, 256);
+    assert_eq!((second.number, second.count), (0, 2_217));
+}
+
+#[test]
+fn empty_sources_and_long_ones() {
+    assert_eq!(sample(0, &[], 256).number, 13);
+    assert_eq!(sample(0, &[], 255).number, 1);
+    // No slice is as long, so the length is judged by itself.
+    assert!(uncounted(1 << 62) && uncounted(usize::MAX));
+    assert!(!uncounted((1 << 62) - 1));
 }
 
 #[test]

@@ -1,7 +1,7 @@
-//! Laws that a right reading of document 01 must have, tried on the reference.
+//! Laws that a right reading of the documents must have, tried on the reference.
 
-use super::bits::part;
-use super::dealer::{deal, deal_source, sample, tape_accepted, DEALT_BYTES};
+use super::bits::{bit, part};
+use super::dealer::{bytes_of, deal, deal_source, pairs_of, sample, tape_accepted, DEALT_BYTES};
 use super::evaluator::{code, evaluate};
 use super::frame::{DEAL_BYTES, OPEN_BYTES};
 use super::join::join;
@@ -81,13 +81,42 @@ fn dealing_from_a_source_deals_the_sampled_tape() {
     let mut random = Random::for_test("deal from source");
     for _ in 0..50 {
         let length = 200 + random.below(200);
-        let source = random.bytes(length);
-        let sampled = sample(&source, 256);
-        let dealt = deal_source(5, &source, 332);
+        let (start, source) = (random.below(200) as u64, random.bytes(length));
+        let sampled = sample(start, &source, 256);
+        let dealt = deal_source(5, start, &source, 332);
         assert_eq!((dealt.number, dealt.count), (sampled.number, sampled.count));
         if sampled.number == 0 {
             assert_eq!(dealt.bytes, deal(5, &sampled.bytes, 332).bytes);
         }
+    }
+}
+
+#[test]
+fn pairs_and_bytes_are_the_same_bits() {
+    let mut random = Random::for_test("pairs");
+    let bytes = random.bytes(300);
+    let pairs = pairs_of(&bytes);
+    for (k, pair) in pairs.iter().enumerate() {
+        assert_eq!(*pair, bit(&bytes, 2 * k) + 2 * bit(&bytes, 2 * k + 1));
+    }
+    assert_eq!(bytes_of(&pairs), bytes);
+}
+
+/// A draw from a start is the draw from 0 of the pairs that come from there on.
+#[test]
+fn a_draw_sees_the_pairs_from_its_start_on() {
+    let mut random = Random::for_test("starts");
+    for _ in 0..200 {
+        let length = 280 + random.below(200);
+        let source = random.bytes(length);
+        let start = random.below(4 * length);
+        // The moved source ends with threes where its last byte is not filled.
+        let mut moved = pairs_of(&source)[start..].to_vec();
+        moved.resize(moved.len().div_ceil(4) * 4, 3);
+        let from_0 = sample(0, &bytes_of(&moved), 256);
+        let mut from_start = sample(start as u64, &source, 256);
+        from_start.count = from_start.count.saturating_sub(start as u64);
+        assert_eq!(from_start, from_0);
     }
 }
 
@@ -104,7 +133,7 @@ fn no_input_makes_the_reference_panic() {
         step(&state, &bytes, &bytes, 70);
         join(&bytes, &tape, 22);
         deal(1, &bytes, length);
-        deal_source(1, &bytes, 332);
+        deal_source(1, random.word() >> random.below(64), &bytes, 332);
         evaluate(&bytes, &tape, &bytes, 22);
         matrix_write(&bytes, length);
         matrix_read(&bytes, length);

@@ -27,8 +27,8 @@ pub const UNFIT_TRIT: u32 = 10;
 pub const UNUSED_BIT: u32 = 11;
 /// "a row is all zero"
 pub const ZERO_ROW: u32 = 12;
-/// "fewer than 256 pairs other than 3 after source byte 191, or fewer than 192
-/// source bytes"
+/// "a source of 2^62 bytes or more (64 bits would not count its pairs), fewer
+/// than 768 pairs from the start, or fewer than 256 other than 3 after those"
 pub const SHORT_SOURCE: u32 = 13;
 
 /// A number of the table and whether its condition holds. A condition that

@@ -33,20 +33,22 @@ mod linked {
             room: Length,
         ) -> u32;
         pub fn pair_sample(
+            start: u64,
             source: In,
             source_length: Length,
             out: Out,
             room: Length,
-            used: *mut u64,
+            next: *mut u64,
         ) -> u32;
         pub fn pair_deal(session: u32, tape: In, n: Length, out: Out, room: Length) -> u32;
         pub fn pair_deal_source(
             session: u32,
+            start: u64,
             source: In,
             source_length: Length,
             out: Out,
             room: Length,
-            used: *mut u64,
+            next: *mut u64,
         ) -> u32;
         pub fn pair_begin(
             side: u32,
@@ -113,9 +115,9 @@ pub fn evaluate(key: &[u8], label: &[u8], file: &[u8], out: &mut [u8]) -> u32 {
     }
 }
 
-pub fn sample(source: &[u8], out: &mut [u8], used: &mut u64) -> u32 {
+pub fn sample(start: u64, source: &[u8], out: &mut [u8], next: &mut u64) -> u32 {
     let (output, room) = (out.as_mut_ptr(), out.len());
-    unsafe { linked::pair_sample(source.as_ptr(), source.len(), output, room, used) }
+    unsafe { linked::pair_sample(start, source.as_ptr(), source.len(), output, room, next) }
 }
 
 pub fn deal(session: u32, tape: &[u8], out: &mut [u8]) -> u32 {
@@ -123,9 +125,18 @@ pub fn deal(session: u32, tape: &[u8], out: &mut [u8]) -> u32 {
     unsafe { linked::pair_deal(session, tape.as_ptr(), tape.len(), output, room) }
 }
 
-pub fn deal_source(session: u32, source: &[u8], out: &mut [u8], used: &mut u64) -> u32 {
-    let (output, room) = (out.as_mut_ptr(), out.len());
-    unsafe { linked::pair_deal_source(session, source.as_ptr(), source.len(), output, room, used) }
+pub fn deal_source(session: u32, start: u64, source: &[u8], out: &mut [u8], next: &mut u64) -> u32 {
+    unsafe {
+        linked::pair_deal_source(
+            session,
+            start,
+            source.as_ptr(),
+            source.len(),
+            out.as_mut_ptr(),
+            out.len(),
+            next,
+        )
+    }
 }
 
 pub fn begin(side: u32, session: u32, key: &[u8], label: &[u8], state: &mut [u8]) -> u32 {

@@ -108,13 +108,13 @@ fn dealer_over_sources() {
     let mut done = 0;
     for _ in 0..count {
         let length = random.below(420);
-        let source = random.contents(length);
+        let (start, source) = (random.below(200) as u64, random.contents(length));
         let (session, room) = (random.session(), nearly(&mut random, 332));
-        let expected = dealer::deal_source(session, &source, room);
+        let expected = dealer::deal_source(session, start, &source, room);
         done += usize::from(expected.number == DONE);
         let name = "pair_deal_source";
-        compare_counted(&mut random, name, [&source], room, &expected, |[source], out, used| {
-            interface::deal_source(session, source, out, used)
+        compare_counted(&mut random, name, [&source], room, &expected, |[source], out, next| {
+            interface::deal_source(session, start, source, out, next)
         });
     }
     assert!(done > count / 20);

@@ -1,25 +1,27 @@
 -- The dealer takes exactly the accepted tapes, and the sampler makes accepted tapes.
-use Prim.Native.Nat.{ℕ, zero, suc, _+_, _-_, _*_, _≤_, _<_}
-use mathlib.Core.Path.{_≡_, refl, sym, ap, _∙_, subst}
+use Prim.Native.Nat.{ℕ, _+_, _-_, _*_, _<_}
+use mathlib.Core.Path.{_≡_, sym, ap, _∙_, subst}
 use mathlib.Core.Logic.{_↔_}
 use mathlib.Core.List.{List, [], _∷_}
-use mathlib.Core.Bool.{Bool, true, false, cond, not}
+use mathlib.Core.Bool.{Bool, cond, not}
 use native.Mathlib.Omega.{arith}
-use native.Mathlib.Nat.{le-refl, zero-lt-suc, mod-lt}
+use native.Mathlib.Nat.{le-refl}
 use lib.Dec.{T, eqb, lit<}
 use lib.ListN.{length, getD, take, drop}
-use lib.Seq.{drop-drop, drop-at, take-all, length-take-le}
+use lib.Seq.{drop-drop, drop-at, take-all}
 use Rattle.linear_model.specs.Bits.{Bytes}
 use Rattle.linear_model.specs.Trits.{fitTrits, packTrits}
-use Rattle.linear_model.proofs.Strings.{bytes-slice, bytes-append}
+use Rattle.linear_model.proofs.Strings.{bytes-append}
 use Rattle.linear_model.proofs.Vectors.{length-packTrits, bytes-packTrits, fit-pack}
 use Rattle.numbers.specs.Number.{_when_, first, merge}
 use Rattle.pair_model.specs.Scheme.{Files, faultsIn, readingNumber, Scheme, field}
 use Rattle.pair_model.specs.Tape.{tapeBytes, r0, Accepted}
-use Rattle.source_model.specs.Pair.{pair}
-use Rattle.pair_model.specs.Sampler.{Drawn, found, draw, copiedBytes, wantedTrits, drawn, sampled, sampleConditions, sampleNumber}
+use Rattle.source_model.specs.Draw.{copied, tritOf, drawn, tapeFrom}
+use Rattle.source_model.proofs.Draws.{drawn-small}
+use Rattle.source_model.proofs.Copied.{length-copied, bytes-copied}
+use Rattle.pair_model.specs.Sampler.{copiedBytes, wantedTrits, sampled}
 use Rattle.pair_model.specs.Dealer.{dealtBytes, dealConditions, dealNumber}
-use Rattle.numbers.proofs.Numbers.{is-true, denied, equal, at-least, is-equal, is-at-least, Positive, none-holds, first-zero, first-merge}
+use Rattle.numbers.proofs.Numbers.{is-true, denied, equal, at-least, is-equal, Positive, none-holds, first-zero, first-merge}
 use Rattle.pair_model.proofs.Theorem.StepLaws.{fit-length, fit-faults}
 
 -- ---- tapes
@@ -56,46 +58,7 @@ module _ (S : Scheme) (lent : Files) (positive : Positive (faultsIn (S .productR
 
 -- ---- sampled tapes
 
--- a pair that is not skipped is a trit
-trit-pair : (source : List ℕ) (k : ℕ) → eqb (pair source k) 3 ≡ false → pair source k < 3
-unfolding pair
-trit-pair source k e = go (pair source k) (mod-lt _ (zero-lt-suc 3)) e
-  where
-    go : (x : ℕ) → x < 4 → eqb x 3 ≡ false → x < 3
-    go zero l e = omega arith
-    go (suc zero) l e = omega arith
-    go (suc (suc zero)) l e = omega arith
-    go (suc (suc (suc zero))) l e = absurd (subst T e tt)
-    go (suc (suc (suc (suc x)))) l e = absurd (omega arith)
-
--- what is drawn are trits
-pub drawn-trits : (source : List ℕ) (wanted left k j : ℕ) → getD (draw source wanted left k .trits) j 0 < 3
-unfolding draw
-drawn-trits source zero left k j = lit< tt
-drawn-trits source (suc wanted) zero k j = lit< tt
-drawn-trits source (suc wanted) (suc left) k j =
-    pick (eqb (pair source k) 3) refl (drawn-trits source (suc wanted) left (suc k)) (drawn-trits source wanted left (suc k)) j
-  where
-    skip : Drawn
-    skip = draw source (suc wanted) left (suc k)
-
-    rest : Drawn
-    rest = draw source wanted left (suc k)
-
-    pick : (b : Bool) → eqb (pair source k) 3 ≡ b → ((j : ℕ) → getD (skip .trits) j 0 < 3) → ((j : ℕ) → getD (rest .trits) j 0 < 3)
-        → (j : ℕ) → getD (cond b skip (found (pair source k) rest) .trits) j 0 < 3
-    pick true e p q j = p j
-    pick false e p q zero = trit-pair source k e
-    pick false e p q (suc j) = q j
-
-module _ (S : Scheme) (source : List ℕ) (bytes : (i : ℕ) → getD source i 0 < 256) where
-  abbrev trits : ℕ → ℕ
-  trits j = getD (drawn S source .trits) j 0
-
-  trits-lt : (j : ℕ) → trits j < 3
-  unfolding drawn
-  trits-lt j = drawn-trits source (wantedTrits S) (4 * (length source - copiedBytes S)) (4 * copiedBytes S) j
-
+module _ (S : Scheme) where
   -- r0 stands after the copied bytes
   r0-after : (s : List ℕ) → r0 S s ≡ take (2 * S .innerBytes) (drop (copiedBytes S) s)
   unfolding r0 field
@@ -114,36 +77,36 @@ module _ (S : Scheme) (source : List ℕ) (bytes : (i : ℕ) → getD source i 0
       size : n + n + n + n + m + m ≡ copiedBytes S
       size = omega arith
 
-  module _ (enough : copiedBytes S ≤ length source) where
-    r0-sampled : r0 S (sampled S source) ≡ packTrits (S .innerBytes) trits
-    unfolding sampled
+  module _ (source : List ℕ) (s : ℕ) where
+    -- the trits that are drawn
+    abbrev trits : ℕ → ℕ
+    trits = tritOf (drawn (copiedBytes S) (wantedTrits S) source s .trits)
+
+    -- they are below 3
+    trits-lt : (j : ℕ) → trits j < 3
+    trits-lt = drawn-small (copiedBytes S) (wantedTrits S) source s
+
+    -- r0 of a sampled tape is these trits
+    r0-sampled : r0 S (sampled S source s) ≡ packTrits (S .innerBytes) trits
+    unfolding sampled tapeFrom
     r0-sampled =
-        r0-after (sampled S source)
+        r0-after (sampled S source s)
         ∙ ap (take (2 * S .innerBytes))
-        (drop-at (take (copiedBytes S) source) (packTrits (S .innerBytes) trits) (copiedBytes S) (length-take-le (copiedBytes S) source enough))
+        (drop-at (copied (copiedBytes S) source s) (packTrits (S .innerBytes) trits) (copiedBytes S) (length-copied (copiedBytes S) source s))
         ∙ take-all (2 * S .innerBytes) (packTrits (S .innerBytes) trits) (omega (arith, length-packTrits (S .innerBytes) trits))
 
-    accepted-sampled : Accepted S (sampled S source)
-    unfolding sampled
-    accepted-sampled =
+    -- what the sampler makes is accepted
+    pub sampled-accepted : Accepted S (sampled S source s)
+    unfolding sampled tapeFrom
+    sampled-accepted =
         record {
           bytes =
-              subst (λ (k : ℕ). Bytes k (sampled S source)) whole
-              (bytes-append copied (bytes-packTrits (S .innerBytes) trits (λ j. omega (arith, trits-lt j))));
+              subst (λ (k : ℕ). Bytes k (sampled S source s)) whole
+              (bytes-append (bytes-copied (copiedBytes S) source s) (bytes-packTrits (S .innerBytes) trits (λ j. omega (arith, trits-lt j))));
           fit =
               subst (λ (v : List ℕ). T (fitTrits (S .innerBytes) (8 * S .innerBytes) v)) (sym r0-sampled)
               (fit-pack (S .innerBytes) (8 * S .innerBytes) trits trits-lt (le-refl (8 * S .innerBytes)));
         }
       where
-        copied : Bytes (copiedBytes S) (take (copiedBytes S) source)
-        copied = bytes-slice (length source) 0 (copiedBytes S) source (record { size = refl; small = bytes }) (omega arith)
-
         whole : copiedBytes S + (S .innerBytes + S .innerBytes) ≡ tapeBytes S
         whole = omega arith
-
-  -- where the sampler returns 0, the tape is accepted
-  pub sampled-accepted : (outputLength : ℕ) → sampleNumber S source outputLength ≡ 0 → Accepted S (sampled S source)
-  unfolding sampleConditions
-  sampled-accepted outputLength e =
-      let h = none-holds (sampleConditions S source outputLength) (lit< tt, (lit< tt, (lit< tt, tt))) e in
-      accepted-sampled (is-at-least (length source) (copiedBytes S) (h .1 .0))

@@ -1,5 +1,5 @@
 -- The twelve examples of document 01 hold.
-use Prim.Native.Nat.{ℕ, _+_, _-_, _*_, _/_, _%_, _<_}
+use Prim.Native.Nat.{ℕ, _+_, _-_, _*_, _%_, _<_}
 use mathlib.Core.Path.{_≡_, refl, sym, ap, ap₂, _∙_}
 use mathlib.Core.Logic.{_≢_}
 use mathlib.Core.List.{List, [], _∷_}
@@ -10,18 +10,19 @@ use lib.ListN.{length, getD, replicate, getD-replicate, length-append, length-re
 use lib.Seq.{getD-append-add}
 use Rattle.linear_model.specs.Bits.{Bytes, zeros, bit}
 use Rattle.linear_model.specs.Tables.{sum}
-use Rattle.linear_model.specs.Trits.{trit}
 use Rattle.linear_model.specs.Products.{bitTerm, bitRow, bitProduct, circulant, circulantProduct}
 use Rattle.linear_model.proofs.Sums.{sum-one, term-zero}
 use Rattle.linear_model.proofs.Strings.{bit-lt, pack-ext, pack-bits}
 use Rattle.linear_model.proofs.Linearity.{bit-product, trit-inner}
-use Rattle.numbers.specs.Number.{_when_, first}
+use Rattle.numbers.proofs.Numbers.{first-pass}
 use Rattle.matrix_model.proofs.Examples.{example-11, example-12}
 use Rattle.source_model.specs.Pair.{pair}
-use Rattle.pair_model.specs.Sampler.{Drawn, found, draw, drawn, sampleConditions, sampleNumber, used}
+use Rattle.source_model.specs.Draw.{draw, drawn}
+use Rattle.source_model.proofs.Conditions.{is-enough, too-few}
+use Rattle.source_model.proofs.BytesE4.{Many, many, many-and-one}
+use Rattle.pair_model.specs.Sampler.{sampleConditions, sampleNumber, nextPair}
 use Rattle.pair_model.specs.Base.{base}
 use Rattle.pair_model.specs.Examples.{Shares, tritsOf, bytesE4, TwelveExamples}
-use Rattle.pair_model.proofs.Evidence.BytesE4.{Many, many, one-trit, pair-at}
 
 -- ---- 1 and 2: a key of one bit moves the label
 
@@ -87,51 +88,32 @@ module _ (front : List ℕ) (h : length front ≡ 192) where
   long : (n : ℕ) → length (bytesE4 front n) ≡ 192 + n
   long n = length-append front (replicate n 0xE4) ∙ ap₂ (λ (x y : ℕ). x + y) h (length-replicate n 0xE4)
 
-  -- after 85 of 86 bytes one trit is wanted, and the last byte has it first
-  all-but-one : Many (bytesE4 front 86) 85 (drawn base (bytesE4 front 86)) (draw (bytesE4 front 86) 1 4 1108)
+  -- 85 of 86 bytes and one pair more give all trits
+  drawn-86 : Many 85 (drawn 192 256 (bytesE4 front 86) 0) (record { trits = 0 ∷ []; next = 1109 })
   unfolding drawn
-  all-but-one = rw (long 86) (many (bytesE4 front 86) 85 192 0 4 (λ i l. byte-at 86 i (omega arith)))
-
-  abbrev lastDrawn : Drawn
-  lastDrawn = record { trits = 0 ∷ []; next = 1109 }
-
-  last-trit : draw (bytesE4 front 86) 1 4 1108 ≡ lastDrawn
-  last-trit =
-      one-trit (bytesE4 front 86) 0 3 1108 0 (pair-at (bytesE4 front 86) 277 0 1108 (byte-at 86 85 (lit< tt)) (lit< tt) refl) refl
-      ∙ ap (found 0) (none-wanted (bytesE4 front 86) 3 1109)
-    where
-      empty : ℕ → Drawn
-      empty k = record { trits = []; next = k }
-
-      none-wanted : (source : List ℕ) (left k : ℕ) → draw source 0 left k ≡ empty k
-      none-wanted source left k = unfold draw in refl
+  drawn-86 = rw (long 86) (many-and-one (bytesE4 front 86) 85 192 3 (byte-at 86))
 
   -- after 85 of 85 bytes one trit is wanted, and no pair is left
-  one-short : Many (bytesE4 front 85) 85 (drawn base (bytesE4 front 85)) (draw (bytesE4 front 85) 1 0 1108)
-  unfolding drawn
-  one-short = rw (long 85) (many (bytesE4 front 85) 85 192 0 0 (λ i l. byte-at 85 i l))
+  drawn-85 : Many 85 (drawn 192 256 (bytesE4 front 85) 0) (record { trits = []; next = 1108 })
+  unfolding drawn draw
+  drawn-85 = rw (long 85) (many (bytesE4 front 85) 85 192 0 0 (byte-at 85))
 
-  nothing-left : length (draw (bytesE4 front 85) 1 0 1108 .trits) ≡ 0
-  unfolding draw
-  nothing-left = refl
+  -- the next pair after 86 bytes
+  next-1109 : nextPair base (bytesE4 front 86) 0 ≡ 1109
+  unfolding nextPair
+  next-1109 = drawn-86 .next
 
-  length-86 : length (drawn base (bytesE4 front 86) .trits) ≡ 256
-  length-86 = all-but-one .trits ∙ ap (λ (d : Drawn). 255 + length (d .trits)) last-trit
+  -- with 86 bytes the source is enough, and with 85 it has too few trits
+  number-0 : sampleNumber base (bytesE4 front 86) 0 256 ≡ 0
+  unfolding sampleConditions
+  number-0 =
+      first-pass 1 (ltb 256 256) _ refl
+      ∙ is-enough 192 256 (bytesE4 front 86) 0
+      (record { counted = omega (arith, long 86); copies = omega (arith, long 86); all = omega (arith, drawn-86 .trits) })
 
-  length-85 : length (drawn base (bytesE4 front 85) .trits) ≡ 255
-  length-85 = one-short .trits ∙ ap (λ (n : ℕ). 255 + n) nothing-left
-
-  used-278 : used base (bytesE4 front 86) ≡ 278
-  unfolding used
-  used-278 = ap (λ (k : ℕ). (k + 3) / 4) (all-but-one .next ∙ ap (λ (d : Drawn). d .next) last-trit)
-
-  number-0 : sampleNumber base (bytesE4 front 86) 256 ≡ 0
-  unfolding sampleConditions first
-  number-0 = λ j. first (1 when ltb 256 256 ∷ 13 when ltb (long 86 j) 192 ∷ 13 when ltb (length-86 j) 256 ∷ [])
-
-  number-13 : sampleNumber base (bytesE4 front 85) 256 ≡ 13
-  unfolding sampleConditions first
-  number-13 = λ j. first (1 when ltb 256 256 ∷ 13 when ltb (long 85 j) 192 ∷ 13 when ltb (length-85 j) 256 ∷ [])
+  number-13 : sampleNumber base (bytesE4 front 85) 0 256 ≡ 13
+  unfolding sampleConditions
+  number-13 = first-pass 1 (ltb 256 256) _ refl ∙ too-few 192 256 (bytesE4 front 85) 0 (omega (arith, drawn-85 .trits))
 
 -- ---- all twelve
 
@@ -147,7 +129,7 @@ twelve-examples =
       example6 = shares 0 1 2;
       example7 = one-byte-E4;
       example8 = one-byte-FF;
-      example9 = λ front h. (used-278 front h, number-0 front h);
+      example9 = λ front h. (next-1109 front h, number-0 front h);
       example10 = number-13;
       example11 = example-11;
       example12 = example-12;

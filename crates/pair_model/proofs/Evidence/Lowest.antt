@@ -11,7 +11,8 @@ use Rattle.matrix_model.proofs.Lowest.{faults-rise, check-lowest, read-lowest, 
 use Rattle.pair_model.specs.Scheme.{Files, readsNothing, faultsIn, Scheme}
 use Rattle.pair_model.specs.Base.{base}
 use Rattle.pair_model.specs.Frame.{Parameters, dealKind, openKind, maskKind, kindOf}
-use Rattle.pair_model.specs.Sampler.{sampleConditions}
+use Rattle.source_model.specs.Draw.{sourceConditions}
+use Rattle.pair_model.specs.Sampler.{shortConditions, sampleConditions}
 use Rattle.pair_model.specs.Evaluator.{evaluateConditions}
 use Rattle.pair_model.specs.Unit.{stepReading, unfitDeal, beginConditions, begin, contentConditions, stepConditions}
 use Rattle.pair_model.specs.Join.{joinConditions}
@@ -30,9 +31,14 @@ module _ (S : Scheme) where
   unfolding joinConditions
   join-rises f g n = (lit≤ tt, (lit≤ tt, (lit≤ tt, (lit≤ tt, (lit≤ tt, (lit≤ tt, (lit≤ tt, tt)))))))
 
-  sample-rises : (source : List ℕ) (n : ℕ) → Rising (sampleConditions S source n)
+  -- what a source is short of is 13
+  short-rises : (source : List ℕ) (s : ℕ) → RisingFrom 13 (shortConditions S source s)
+  unfolding sourceConditions
+  short-rises source s = (lit≤ tt, (lit≤ tt, (lit≤ tt, tt)))
+
+  sample-rises : (source : List ℕ) (s n : ℕ) → Rising (sampleConditions S source s n)
   unfolding sampleConditions
-  sample-rises source n = (lit≤ tt, (lit≤ tt, (lit≤ tt, tt)))
+  sample-rises source s n = (lit≤ tt, rising-from 1 13 (shortConditions S source s) (lit≤ tt) (short-rises source s))
 
   -- ---- where the faults of what is read rise from 8 on
 
@@ -42,10 +48,11 @@ module _ (S : Scheme) where
     deal-rises tape n =
         (lit≤ tt, (lit≤ tt, (lit≤ tt, rising-from 1 8 (merge _ _) (lit≤ tt) (rising-merge 8 _ _ product (lit≤ tt, tt)))))
 
-    deal-source-rises : (source : List ℕ) (n : ℕ) → Rising (dealSourceConditions S lent source n)
+    deal-source-rises : (source : List ℕ) (s n : ℕ) → Rising (dealSourceConditions S lent source s n)
     unfolding dealSourceConditions
-    deal-source-rises source n =
-        (lit≤ tt, (lit≤ tt, rising-from 1 8 (merge _ _) (lit≤ tt) (rising-merge 8 _ _ product (lit≤ tt, (lit≤ tt, tt)))))
+    deal-source-rises source s n =
+        let short = rising-from 8 13 (shortConditions S source s) (lit≤ tt) (short-rises source s) in
+        (lit≤ tt, (lit≤ tt, rising-from 1 8 (merge _ _) (lit≤ tt) (rising-merge 8 _ _ product short)))
 
     module _ (rows : RisingFrom 8 (faultsIn (S .rowsReading) lent)) where
       evaluate-rises : (key label : List ℕ) (n : ℕ) → Rising (evaluateConditions S key label lent n)
@@ -85,8 +92,8 @@ lowest-numbers =
     record {
       evaluates = λ key label lent n. first-lowest (evaluate-rises base lent tt (faults-rise (lent .matrix)) key label n);
       deals = λ lent tape n. first-lowest (deal-rises base lent tt tape n);
-      deals-source = λ lent source n. first-lowest (deal-source-rises base lent tt source n);
-      samples = λ source n. first-lowest (sample-rises base source n);
+      deals-source = λ lent source s n. first-lowest (deal-source-rises base lent tt source s n);
+      samples = λ source s n. first-lowest (sample-rises base source s n);
       begins = λ t key label. first-lowest (begin-rises base t key label);
       begins-slice = λ t key label s. first-lowest (lit≤ tt, begin-rises base t key label);
       steps =

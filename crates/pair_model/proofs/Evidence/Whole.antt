@@ -1,5 +1,6 @@
 -- All of the evidence holds.
 use Rattle.numbers.proofs.Lowest.{falling-first}
+use Rattle.source_model.proofs.Evidence.{draw-evidence}
 use Rattle.pair_model.specs.Run.{protocol}
 use Rattle.pair_model.specs.Base.{base}
 use Rattle.pair_model.specs.Theorem.{Correctness, Privacy, ThreeFrames}
@@ -27,6 +28,7 @@ evidence =
       selfComparable = λ fixed run es. shared-comparable (protocol base) fixed run run es;
       dealer = λ lent. deal-accepted base lent tt;
       sampler = sampled-accepted base;
+      draws = draw-evidence;
       share =
           λ fixed a b well₁ well₂ g.
           record { hides = private base base-linear fixed a b well₁ well₂ g; share = other-share-frame base base-linear fixed a b well₁ well₂ g };

@@ -10,15 +10,18 @@ use lib.Dec.{ltb, eqb, lit<}
 use lib.ListN.{length, take, drop, length-append, length-drop, drop-of-length-le}
 use lib.Seq.{take-at, drop-at, take-all, drop-drop, length-take-le}
 use Rattle.linear_model.specs.Bits.{zeros}
-use Rattle.linear_model.specs.Trits.{fitTrits, packTrits}
+use Rattle.linear_model.specs.Trits.{fitTrits}
 use Rattle.linear_model.proofs.Strings.{bytes-add, length-zeros}
 use Rattle.linear_model.proofs.Vectors.{length-packTrits, bytes-subtract}
 use Rattle.numbers.specs.Number.{first, output}
+use Rattle.source_model.specs.Draw.{tritOf, drawn, tapeFrom}
+use Rattle.source_model.proofs.Copied.{length-copied}
 use Rattle.pair_model.specs.Scheme.{Files, badLength, faultsIn, Scheme, Side, side0, side1, layoutBytes, concat}
 use Rattle.pair_model.specs.Tape.{tapeBytes, w̃, z, r0, r, dealLayout, deal}
 use Rattle.pair_model.specs.Frame.{SharedParameters, parametersOf, dealKind, frameBytes, headerBytes}
-use Rattle.pair_model.specs.Sampler.{tritOf, copiedBytes, drawn, sampled, sampleConditions, sampleNumber}
+use Rattle.pair_model.specs.Sampler.{copiedBytes, wantedTrits, sampled, sampleConditions, sampleNumber}
 use Rattle.pair_model.specs.Dealer.{dealFrame, dealt, dealtBytes, dealConditions, dealNumber, dealSourceConditions, dealSourceNumber}
+use Rattle.numbers.proofs.Outputs.{output-whole}
 use Rattle.numbers.proofs.Numbers.{at-least, first-none, is-equal, is-at-least, NoneHolds, first-merge}
 use Rattle.pair_model.proofs.Internal.Fields.{tape-K̃0, tape-K̃1, tape-x̃0, tape-x̃1, tape-z0, tape-r0}
 use Rattle.pair_model.proofs.Internal.Lengths.{length-frame}
@@ -47,29 +50,27 @@ module _ (S : Scheme) where
       record { tape-length = is-equal (length t) (tapeBytes S) (l .0); room = is-at-least n (dealtBytes S) (r .0) }
 
   -- over source bytes: too little room, or else, where what the product reads is fit, the sampler's number
-  module _ (lent : Files) (s : List ℕ) (n : ℕ) where
-    pub source-room : n < dealtBytes S → 1 ≡ dealSourceNumber S lent s n
+  module _ (lent : Files) (source : List ℕ) (s n : ℕ) where
+    pub source-room : n < dealtBytes S → 1 ≡ dealSourceNumber S lent source s n
     unfolding first dealSourceConditions
     source-room h = simp (lt-ltb n (dealtBytes S) h)
 
     pub source-number : badLength (S .productReading) lent ≡ false → NoneHolds (faultsIn (S .productReading) lent) → dealtBytes S ≤ n
-        → sampleNumber S s (tapeBytes S) ≡ dealSourceNumber S lent s n
+        → sampleNumber S source s (tapeBytes S) ≡ dealSourceNumber S lent source s n
     unfolding first sampleConditions dealSourceConditions
     source-number e none h =
         rw (at-least (tapeBytes S) (tapeBytes S) (le-refl (tapeBytes S)), le-ltb n (dealtBytes S) h, e, first-merge (faultsIn (S .productReading) lent) _ none)
 
-  -- a sampled tape fills its bytes
-  pub sampled-whole : (s : List ℕ) → sampleNumber S s (tapeBytes S) ≡ 0 → output 0 (sampled S s) (zeros (tapeBytes S)) ≡ sampled S s
-  unfolding output sampled sampleConditions
-  sampled-whole s e =
-      let o = first-none 1 (ltb (tapeBytes S) (tapeBytes S)) _ (lit< tt) e in
-      let h = first-none 13 (ltb (length s) (copiedBytes S)) _ (lit< tt) (o .1) in
-      let v = packTrits m (tritOf (drawn S s .trits)) in
-      let c = length-take-le (copiedBytes S) s (is-at-least (length s) (copiedBytes S) (h .0)) in
-      let p = length-packTrits m (tritOf (drawn S s .trits)) in
-      let l : tapeBytes S ≤ length (take (copiedBytes S) s ++ v) = rw length-append (omega arith) in
-      ap (λ (x : List ℕ). (take (copiedBytes S) s ++ v) ++ x) (drop-of-length-le (zeros (tapeBytes S)) {i = length (take (copiedBytes S) s ++ v)} (rw length-zeros l))
-      ∙ append-nil (take (copiedBytes S) s ++ v)
+  -- a sampled tape has its length whatever the source
+  pub length-sampled : (source : List ℕ) (s : ℕ) → length (sampled S source s) ≡ tapeBytes S
+  unfolding sampled tapeFrom
+  length-sampled source s =
+      let trits = tritOf (drawn (copiedBytes S) (wantedTrits S) source s .trits) in
+      rw length-append (omega (arith, length-copied (copiedBytes S) source s, length-packTrits m trits))
+
+  -- so it fills its bytes
+  pub sampled-whole : (source : List ℕ) (s : ℕ) → output 0 (sampled S source s) (zeros (tapeBytes S)) ≡ sampled S source s
+  sampled-whole source s = output-whole (sampled S source s) (zeros (tapeBytes S)) (omega (arith, length-zeros (tapeBytes S), length-sampled source s))
 
   -- ---- what is written
 

@@ -154,28 +154,52 @@ fn dealing(run: &'static Run, table: &mut Table) {
 
 fn sampling(random: &mut Random, table: &mut Table) {
     let source = &shared(random.bytes(384))[..];
-    let mut counts = [0; 2];
+    // At a byte's beginning, and inside one.
+    for start in [0, 1] {
+        dealing_from(source, start, table);
+        sampling_from(source, start, table);
+    }
+}
+
+fn dealing_from(source: &'static [u8], start: u64, table: &mut Table) {
+    let mut places = [0; 2];
     let mut out = same("dealer of a source", [0; 332], |ours, out| match ours {
-        true => interface::deal_source(SESSION, source, out, &mut counts[0]),
-        false => dealer::deal_source(SESSION, source, out, &mut counts[1]),
+        true => interface::deal_source(SESSION, start, source, out, &mut places[0]),
+        false => dealer::deal_source(SESSION, start, source, out, &mut places[1]),
     });
-    assert_eq!(counts[0], counts[1], "dealer of a source: the counts differ");
-    let (mut other, mut used, mut other_used) = (out, 0, 0);
+    assert_eq!(places[0], places[1], "dealer of a source: the places differ");
+    let (mut other, [mut next, mut other_next]) = (out, places);
     table.compare(
-        "pair_deal_source, 384 bytes",
-        move || kept(interface::deal_source(SESSION, black_box(source), &mut out, &mut used)),
-        move || kept(dealer::deal_source(SESSION, black_box(source), &mut other, &mut other_used)),
+        &format!("pair_deal_source, 384 bytes, start {start}"),
+        move || {
+            let source = black_box(source);
+            kept(interface::deal_source(SESSION, start, source, &mut out, &mut next))
+        },
+        move || {
+            let source = black_box(source);
+            kept(dealer::deal_source(SESSION, start, source, &mut other, &mut other_next))
+        },
     );
+}
+
+fn sampling_from(source: &'static [u8], start: u64, table: &mut Table) {
+    let mut places = [0; 2];
     let mut out = same("sampler", [0; 256], |ours, out| match ours {
-        true => interface::sample(source, out, &mut counts[0]),
-        false => sampler::sample(source, out, &mut counts[1]),
+        true => interface::sample(start, source, out, &mut places[0]),
+        false => sampler::sample(start, source, out, &mut places[1]),
     });
-    assert_eq!(counts[0], counts[1], "sampler: the counts differ");
-    let mut other = out;
+    assert_eq!(places[0], places[1], "sampler: the places differ");
+    let (mut other, [mut next, mut other_next]) = (out, places);
     table.compare(
-        "pair_sample, 384 bytes",
-        move || kept(interface::sample(black_box(source), black_box(&mut out), &mut used)),
-        move || kept(sampler::sample(black_box(source), black_box(&mut other), &mut other_used)),
+        &format!("pair_sample, 384 bytes, start {start}"),
+        move || {
+            let (source, out) = (black_box(source), black_box(&mut out));
+            kept(interface::sample(start, source, out, &mut next))
+        },
+        move || {
+            let (source, out) = (black_box(source), black_box(&mut other));
+            kept(sampler::sample(start, source, out, &mut other_next))
+        },
     );
 }
 

@@ -4,8 +4,8 @@ use native.Mathlib.Omega.{arith}
 use lib.Dec.{lit<}
 use lib.ListN.{length-set}
 use Rattle.linear_model.proofs.Filling.{Planes, planes-none, planes-more, planes-all}
-use Rattle.pair_model.specs.Sampler.{tritOf}
-use Rattle.pair_sampler.proofs.Draws.{planes-of}
+use Rattle.source_model.specs.Draw.{tritOf}
+use Rattle.pair_sampler.proofs.Planes.{planes-of}
 use Rattle.pair_sampler.proofs.packing.pack.Statement.{statement}
 use Rattle.pair_sampler.proofs.packing.pack.Tie as tie
 

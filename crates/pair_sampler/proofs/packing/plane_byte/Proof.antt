@@ -9,7 +9,7 @@ use Rattle.linear_model.specs.Bits.{bitAt, bit}
 use Rattle.linear_model.proofs.NumberBits.{from-bits-ext}
 use Rattle.linear_model.proofs.Strings.{bit-at}
 use Rattle.linear_model.proofs.WordBits.{word-bit-at}
-use Rattle.pair_sampler.specs.Drawing.{planeBit}
+use Rattle.pair_sampler.specs.Planes.{planeBit}
 use Rattle.pair_sampler.proofs.Gathering.{small-bit}
 use Rattle.pair_sampler.proofs.packing.plane_byte.Statement.{statement}
 use Rattle.pair_sampler.proofs.packing.plane_byte.Tie as tie

@@ -1,14 +1,15 @@
--- `pair_sampler::sampler::sample_sized` meets its contract: its number by what was found, and the tape in two parts.
-use mathlib.Core.Path.{refl, sym, ap, _∙_}
-use Prim.Native.Nat.{ℕ, _+_, _*_, _/_}
+-- `pair_sampler::sampler::sample_sized` meets its contract: the draw's number and place, and the tape in two parts.
+use mathlib.Core.Path.{refl, sym, _∙_}
+use Prim.Native.Nat.{_+_, _*_, _≤_}
 use native.Mathlib.Omega.{arith}
-use lib.Dec.{lit<}
+use lib.ListN.{length, take}
 use lib.Seq.{length-take-le}
+use Rattle.linear_model.specs.Bits.{zeros}
 use Rattle.numbers.specs.Number.{output, reported}
+use Rattle.source_model.proofs.Draws.{drawn-small}
 use Rattle.pair_frames.specs.Schemes.{schemeOf}
-use Rattle.pair_model.specs.Sampler.{Drawn, used}
-use Rattle.pair_sampler.proofs.Draws.{zeros-small}
-use Rattle.pair_sampler.proofs.Samples.{sample-output, sample-source, sample-few, sample-done, drawn-is, drawn-few, drawn-enough, part-long, sample-written}
+use Rattle.pair_frames.proofs.Fronts.{lent-fits, lent-front, lent-long}
+use Rattle.pair_sampler.proofs.Samples.{part-long, sample-output, sample-number, sample-next, sample-refused, sample-written}
 use Rattle.pair_sampler.proofs.sampler.sample_sized.Statement.{statement}
 use Rattle.pair_sampler.proofs.sampler.sample_sized.Tie as tie
 
@@ -16,55 +17,71 @@ returns : tie.Need-returns
 unfolding output reported
 returns c =
     let r = c .refused .ensures in
-    (r .0 ∙ sample-output (schemeOf (c .before .before .before .before .args .sizes)) _ _ (omega (arith, c .before .if1 .taken)), (rw (r .0, r .1), rw (r .0)))
+    (r .0 ∙ sample-output (schemeOf (c .before .before .before .before .args .sizes)) _ _ _ (omega (arith, c .before .if1 .taken)), (rw (r .0, r .1), rw (r .0)))
 
-returns-2 : tie.Need-returns-2
-unfolding output reported
-returns-2 c =
-    let r = c .refused2 .ensures in
-    (r .0 ∙ sample-source (schemeOf (c .before .before .before .before .before .args .sizes)) _ _ (omega (arith, c .before .before .if1 .left)) (omega (arith, c .before .if2 .taken)), (rw (r .0, r .1), rw (r .0)))
+array-share-prefix-trits : tie.Need-array-share-prefix-trits
+array-share-prefix-trits c =
+    let d = c .before .before .before .before .before .draw-from in
+    let s = c .before .before .before .before .before .before .before .before .before .before .before in
+    lent-fits (8 * s .args .sizes .«inner_bytes») (zeros 256) (d .last .1 .1 .1 .0) (omega (arith, s .pre .inner)) (d .kept .1 .1 .1 .0)
 
-draw-trits-requires : tie.Need-draw-trits-requires
-draw-trits-requires c κs = (lit< tt, omega (arith, c .before .if2 .left), omega (arith, c .before .before .before .before .before .pre .inner), zeros-small 256)
-
-returns-3 : tie.Need-returns-3
-unfolding output reported
-returns-3 c =
-    let r = c .refused3 .ensures in
-    let d = c .before .before .before .before in
-    let S = schemeOf (d .before .before .before .before .before .before .args .sizes) in
-    (r .0 ∙ sample-few S _ _ (omega (arith, d .before .before .before .if1 .left)) (omega (arith, d .before .before .if2 .left)) (drawn-few S _ _ _ refl refl (d .draw-trits .ensures .short (c .before .if3 .taken))), (rw (r .0, r .1), rw (r .0)))
-
-slice-aggregate-put : tie.Need-slice-aggregate-put
-slice-aggregate-put c = let s = c .before .before .before .before .before .before .before .before .before .before in sym (length-take-le _ (s .args .source .now) (omega (arith, c .before .before .before .before .before .before .if2 .left)))
-
-put-requires : tie.Need-put-requires
-put-requires c κs =
-    let a = c .before .before .before .before .before .before .before .before .before .before .before .args in
-    omega (arith, length-take-le (4 * a .sizes .«key_bytes» + 2 * a .sizes .«inner_bytes») (a .source .now) (omega (arith, c .before .before .before .before .before .before .before .if2 .left)), c .before .before .before .before .before .before .before .before .if1 .left)
+slice-aggregate-pack : tie.Need-slice-aggregate-pack
+slice-aggregate-pack c =
+    let d = c .before .before .before .before .before .before .draw-from in
+    let s = c .before .before .before .before .before .before .before .before .before .before .before .before in
+    sym (lent-long (8 * s .args .sizes .«inner_bytes») (zeros 256) (d .last .1 .1 .1 .0) (omega (arith, s .pre .inner)) (d .kept .1 .1 .1 .0))
 
 pack-requires : tie.Need-pack-requires
 pack-requires c κs =
-    let d = c .before .before .before .before .before .before .before .before .before .before in
-    (omega (arith, c .before .before .before .before .before .before .before .before .before .before .before .before .before .before .before .before .pre .inner, d .draw-trits .kept .1 .1 .1 .1 .0), part-long _ _ _ (omega (arith, c .before .before .before .before .before .before .before .before .before .before .before .before .before .if1 .left, c .before .before .before .out .given)), d .draw-trits .ensures .small)
+    let d = c .before .before .before .before .before .before .before .draw-from in
+    let s = c .before .before .before .before .before .before .before .before .before .before .before .before .before in
+    let k = 4 * s .args .sizes .«key_bytes» + 2 * s .args .sizes .«inner_bytes» in
+    let w = 8 * s .args .sizes .«inner_bytes» in
+    let t = d .last .1 .1 .1 .0 in
+    let h : w ≤ 256 = omega (arith, s .pre .inner) in
+    let kept = d .kept .1 .1 .1 .0 in
+    let e = d .ensures .1 .1 .1 .0 (c .before .before .if2 .taken) in (
+      omega (arith, lent-long w (zeros 256) t h kept),
+      part-long _ _ _ (omega (arith, c .before .before .before .before .before .before .before .before .before .before .if1 .left, c .before .before .before .before .before .before .out .given .1)),
+      λ j. rw (lent-front w (zeros 256) t h kept, e) (omega (arith, drawn-small (length (take k (s .args .out .now))) (length (take w (zeros 256))) (s .args .source .now) (s .args .start) j)),
+    )
 
-returns-4 : tie.Need-returns-4
-unfolding reported used
-returns-4 c =
-    let two = c .before .before .before in
-    let one = two .before .before .before .before .before in
-    let d = one .before .before .before .before .before .before in
-    let s = d .before .before .before .before .before .before in
+returns-2 : tie.Need-returns-2
+returns-2 c =
+    let d = c .before .before .before .before .before .before .before .before .before .before .draw-from in
+    let s = c .before .before .before .before .before .before .before .before .before .before .before .before .before .before .before .before in
     let a = s .args in
     let S = schemeOf (a .sizes) in
-    let all = d .draw-trits .ensures .all (c .before .before .before .before .before .before .before .before .before .before .before .if3 .left) in
-    let room = d .before .before .before .if1 .left in
-    let long = d .before .before .if2 .left in
-    let kept = d .draw-trits .kept in (
-      sample-done S _ _ (omega (arith, room)) (omega (arith, long)) (drawn-enough S _ _ (a .sizes .«inner_bytes») refl refl _ (omega (arith, kept .1 .1 .1 .1 .0, s .pre .inner)) (all .0)),
+    let k = 4 * a .sizes .«key_bytes» + 2 * a .sizes .«inner_bytes» in
+    let w = 8 * a .sizes .«inner_bytes» in
+    let h : w ≤ 256 = omega (arith, s .pre .inner) in
+    let room = c .before .before .before .before .before .before .before .before .before .before .before .before .before .if1 .left in
+    let ec = length-take-le k (a .out .now) (omega (arith, room)) in
+    let ew = length-take-le w (zeros 256) h in
+    let e = d .ensures in
+    let z = c .before .before .before .before .before .if2 .taken in (
+      sample-number S _ _ (ec ∙ omega arith) ew _ _ (omega (arith, room)) (e .0),
       (
-        c .bytes-before .ensures ∙ ap (λ (x : ℕ). (x + 3) / 4) (sym (ap (λ (x : Drawn). x .next) (drawn-is S _ _ _ refl refl) ∙ all .1)),
-        sample-written S (a .source .now) (a .sizes .«key_bytes») (a .sizes .«inner_bytes») refl refl _ (a .out .now) _ _ long room (all .0) (one .put .ensures) (two .pack .ensures),
+        sample-next S _ _ (ec ∙ omega arith) ew _ _ (e .1 .0),
+        sample-written S _ _ (ec ∙ omega arith) ew k _ ec refl (a .out .now) room _ _ _ _ z (e .1 .1 .0) (lent-front w (zeros 256) _ h (d .kept .1 .1 .1 .0) ∙ e .1 .1 .1 .0 z) (c .before .before .pack .ensures),
+      ),
+    )
+
+returns-3 : tie.Need-returns-3
+returns-3 c =
+    let d = c .before .before .before .before .before .draw-from in
+    let s = c .before .before .before .before .before .before .before .before .before .before .before in
+    let a = s .args in
+    let S = schemeOf (a .sizes) in
+    let k = 4 * a .sizes .«key_bytes» + 2 * a .sizes .«inner_bytes» in
+    let room = c .before .before .before .before .before .before .before .before .if1 .left in
+    let ec = length-take-le k (a .out .now) (omega (arith, room)) in
+    let ew = length-take-le (8 * a .sizes .«inner_bytes») (zeros 256) (omega (arith, s .pre .inner)) in
+    let e = d .ensures in (
+      sample-number S _ _ (ec ∙ omega arith) ew _ _ (omega (arith, room)) (e .0),
+      (
+        sample-next S _ _ (ec ∙ omega arith) ew _ _ (e .1 .0),
+        sample-refused S _ _ (ec ∙ omega arith) ew k _ (a .out .now) _ (c .if2 .left) (e .1 .1 .0),
       ),
     )
 
@@ -80,19 +97,18 @@ sample-sized-spec =
     (λ c. omega (arith, c .before .before .pre .key, c .before .before .pre .inner))
     (λ c κs. tt)
     returns
+    (λ c. omega (arith, c .if1 .left))
+    (λ c. sym (length-take-le _ (c .before .before .before .before .args .out .now) (omega (arith, c .before .if1 .left))))
+    (λ c. omega (arith, c .before .before .before .before .pre .inner))
+    (λ c. let s = c .before .before .before .before .before in sym (length-take-le (8 * s .args .sizes .«inner_bytes») (zeros 256) (omega (arith, s .pre .inner))))
     (λ c κs. tt)
-    returns-2
-    (λ c. refl)
-    draw-trits-requires
-    (λ c κs. tt)
-    returns-3
-    slice-aggregate-put
-    put-requires
-    (λ c. sym (c .before .before .before .before .before .before .before .before .before .draw-trits .kept .1 .1 .1 .1 .0))
+    array-share-prefix-trits
+    slice-aggregate-pack
     (λ c. omega arith)
     (λ c. omega arith)
-    (λ c. omega (arith, c .before .before .before .before .before .before .before .before .before .before .before .before .if1 .left, c .before .before .out .given))
+    (λ c. omega (arith, c .before .before .before .before .before .before .before .before .before .if1 .left, c .before .before .before .before .before .out .given .1))
     pack-requires
-    (λ c κs. let s = c .before .before .before .before .before .before .before .before .before .before .before .before .before in (s .draw-trits .ensures .place, omega (arith, s .draw-trits .ensures .within, c .before .before .before .before .before .before .before .before .before .before .before .before .before .before .before .before .before .before .before .good .1 .0 .1)))
-    (λ c. c .before .before .out2 .given .1 ∙ c .before .before .before .before .before .before .before .out .given)
-    returns-4)
+    (λ c. c .before .out2 .given .1 ∙ c .before .before .before .before .before .before .before .before .before .out .given .1)
+    returns-2
+    (λ c. c .before .before .before .before .out .given .1)
+    returns-3)

@@ -1,65 +1,39 @@
 -- Laws of a reader that keeps the trits that it finds, pair by pair and four pairs at a time.
-use mathlib.Core.Path.{_≡_, sym, ap, ap₂, _∙_}
-use mathlib.Core.Logic.{_≢_}
+use mathlib.Core.Path.{_≡_, sym, ap, ap₂, _∙_, subst}
 use mathlib.Core.List.{List, [], _∷_, _++_, append-nil, append-assoc}
-use mathlib.Core.Bool.{Bool, cond}
-use Prim.Native.Nat.{ℕ, zero, suc, _+_, _-_, _*_, _/_, _%_, _<_, _≤_, zero-le}
+use Prim.Native.Nat.{ℕ, suc, _+_, _-_, _*_, _/_, _%_, _<_, _≤_, zero-le}
 use native.Mathlib.Numerals.{add-one}
 use native.Mathlib.Decide.{ℕ-discrete}
 use native.Mathlib.Omega.{arith}
-use borrow.Author.Tests.{eq-eqb, ne-eqb}
-use lib.Dec.{lit<}
-use lib.ListN.{length, getD, set, take, length-set, length-take}
-use lib.Seq.{take-set-le, take-suc-set, getD-set-same, getD-set-other}
+use lib.ListN.{length, set, take, length-set, length-take}
+use lib.Seq.{take-set-le, take-suc-set, take-all}
 use Rattle.source_model.specs.Pair.{pair}
+use Rattle.source_model.specs.Draw.{Drawn, found, draw}
 use Rattle.source_model.specs.Internal.Reading.{pairs}
+use Rattle.source_model.specs.Internal.Drawing.{drawnFrom, Reading, Drew, Kept, keepPair, keepFour}
 use Rattle.source_model.proofs.Pairs.{pair-lt}
-use Rattle.linear_model.specs.Tables.{from}
-use Rattle.linear_model.specs.Bits.{zeros, byteOf}
-use Rattle.linear_model.specs.Trits.{low, high}
-use Rattle.linear_model.specs.Internal.Planes.{PlaneBits}
-use Rattle.linear_model.proofs.NumberBits.{from-bits-ext}
-use Rattle.pair_model.specs.Sampler.{tritOf, Drawn, found, draw}
-use Rattle.pair_sampler.specs.Drawing.{drawnFrom, Reading, Drew, Kept, keepPair, keepFour, planeBit}
-
--- a pair of value 3 is skipped, any other is found
-draw-skip : (s : List ℕ) (w l k : ℕ) → pair s k ≡ 3 → draw s (suc w) (suc l) k ≡ draw s (suc w) l (suc k)
-unfolding draw
-draw-skip s w l k e =
-    ap {B = Drawn} (λ (b : Bool). cond b (draw s (suc w) l (suc k)) (found (pair s k) (draw s w l (suc k)))) (eq-eqb (pair s k) 3 e)
-
-draw-found : (s : List ℕ) (w l k : ℕ) → pair s k ≢ 3 → draw s (suc w) (suc l) k ≡ found (pair s k) (draw s w l (suc k))
-unfolding draw
-draw-found s w l k h =
-    ap {B = Drawn} (λ (b : Bool). cond b (draw s (suc w) l (suc k)) (found (pair s k) (draw s w l (suc k)))) (ne-eqb (pair s k) 3 h)
-
-pub zeros-small : (n j : ℕ) → getD (zeros n) j 0 < 4
-zeros-small zero j = lit< tt
-zeros-small (suc n) zero = lit< tt
-zeros-small (suc n) (suc j) = zeros-small n j
+use Rattle.source_model.proofs.Draws.{draw-skip, draw-found}
 
 -- where a reader begins
-pub reading-none : (s : List ℕ) (w k : ℕ) (t : List ℕ) → w ≤ length t → ((j : ℕ) → getD t j 0 < 4) → k ≤ 4 * length s → Reading s w k t 0 k
-reading-none s w k t h m l =
+pub reading-none : (s : List ℕ) (w k : ℕ) (t : List ℕ) → length t ≡ w → k ≤ 4 * length s → Reading s w k t 0 k
+reading-none s w k t h l =
     let e : w ≡ w - 0 = omega arith in
     record {
-      some = zero-le;
       room = h;
-      small = m;
+      some = zero-le;
       within = l;
       trits = ap (λ (w : ℕ). drawnFrom s w k .trits) e;
       next = ap (λ (w : ℕ). drawnFrom s w k .next) e;
     }
 
+-- where it began, by its number
+pub reading-at : {s : List ℕ} {w : ℕ} {t : List ℕ} {f n : ℕ} (k : ℕ) → Reading s w (4 * (k / 4) + k % 4) t f n → Reading s w k t f n
+reading-at {s} {w} {t} {f} {n} k h =
+    let e : 4 * (k / 4) + k % 4 ≡ k = omega arith in
+    subst (λ (x : ℕ). Reading s w x t f n) e h
+
 -- one pair more
 module _ {s : List ℕ} {w start : ℕ} (t : List ℕ) (f k p : ℕ) (h : Reading s w start t f k) (l : f < w) (m : k < 4 * length s) (e : p ≡ pair s k) where
-  small-still : (j : ℕ) → getD (set t f p) j 0 < 4
-  small-still j = pick (ℕ-discrete j f)
-    where
-      pick : Dec (j ≡ f) → getD (set t f p) j 0 < 4
-      pick (yes q) = rw (q, getD-set-same t f p 0 (omega (arith, h .room)), e) (pair-lt s k)
-      pick (no q) = rw (getD-set-other t f j p 0 q) (h .small j)
-
   left : 4 * length s - k ≡ suc (4 * length s - suc k)
   left = omega arith
 
@@ -79,9 +53,8 @@ module _ {s : List ℕ} {w start : ℕ} (t : List ℕ) (f k p : ℕ) (h : Readin
           now ∙ draw-skip s (w - suc f) (4 * length s - suc k) k (sym e ∙ q) ∙ ap (λ (w : ℕ). draw s w (4 * length s - suc k) (suc k)) (sym wanted) in
           rw (z, add-one)
           record {
+            room = length-set t f p ∙ h .room;
             some = h .some;
-            room = rw length-set (h .room);
-            small = small-still;
             within = omega arith;
             trits = h .trits ∙ ap₂ (λ (x : List ℕ) (d : Drawn). x ++ d .trits) (sym (take-set-le f t f p (omega arith))) r;
             next = h .next ∙ ap (λ (d : Drawn). d .next) r;
@@ -92,9 +65,8 @@ module _ {s : List ℕ} {w start : ℕ} (t : List ℕ) (f k p : ℕ) (h : Readin
           now ∙ draw-found s (w - suc f) (4 * length s - suc k) k (λ x. q (e ∙ x)) ∙ ap (λ (x : ℕ). found x (drawnFrom s (w - suc f) (suc k))) (sym e) in
           rw (z, add-one)
           record {
+            room = length-set t f p ∙ h .room;
             some = omega arith;
-            room = rw length-set (h .room);
-            small = small-still;
             within = omega arith;
             trits =
                 h .trits ∙ ap (λ (d : Drawn). take f t ++ d .trits) r
@@ -153,12 +125,12 @@ kept-four v f₀ f₁ f₂ f₃ f₄ t₀ t₁ t₂ t₃ t₄ a b c d =
 
 module _ {s : List ℕ} {w start : ℕ} {t : List ℕ} {f k : ℕ} (h : Reading s w start t f k) where
   -- where all are found
-  reading-full : w ≤ f → (drawnFrom s w start .trits ≡ take w t) × (drawnFrom s w start .next ≡ k)
+  reading-full : w ≤ f → (drawnFrom s w start .trits ≡ t) × (drawnFrom s w start .next ≡ k)
   unfolding draw
   reading-full l =
       let z : w - f ≡ 0 = omega (arith, h .some) in
       let y : f ≡ w = omega (arith, h .some) in (
-        h .trits ∙ ap₂ (λ (x v : ℕ). take x t ++ draw s v (4 * length s - k) k .trits) y z ∙ append-nil (take w t),
+        h .trits ∙ ap₂ (λ (x v : ℕ). take x t ++ draw s v (4 * length s - k) k .trits) y z ∙ append-nil (take w t) ∙ take-all w t (omega (arith, h .room)),
         h .next ∙ ap (λ (v : ℕ). draw s v (4 * length s - k) k .next) z,
       )
 
@@ -172,14 +144,5 @@ module _ {s : List ℕ} {w start : ℕ} {t : List ℕ} {f k : ℕ} (h : Reading 
       rw e (omega (arith, length-take f t, h .room))
 
 -- what the loop leaves, whether all are found or the source has ended
-pub reading-drew : {s : List ℕ} {w start : ℕ} {t : List ℕ} {f : ℕ} (b q : ℕ) → q < 4 → Reading s w start t f (4 * b + q) → (f < w → 4 * length s ≤ 4 * b + q) → Drew s w start t f b q
-reading-drew b q l h e =
-    record { place = l; within = h .within; small = h .small; all = reading-full h; short = λ m. reading-short h m (e m) }
-
--- the planes of trits below 4, byte by byte
-pub planes-of : (t : List ℕ) → ((j : ℕ) → getD t j 0 < 4) → (i x y : ℕ) → x ≡ byteOf (planeBit t 0) i → y ≡ byteOf (planeBit t 1) i → PlaneBits 8 (tritOf t) i x y
-planes-of t h i x y p q =
-    record {
-      low-is = p ∙ from-bits-ext 8 (from (8 * i) (planeBit t 0)) (from (8 * i) (low (tritOf t))) (λ k l. omega arith);
-      high-is = q ∙ from-bits-ext 8 (from (8 * i) (planeBit t 1)) (from (8 * i) (high (tritOf t))) (λ k l. omega (arith, h (8 * i + k)));
-    }
+pub reading-drew : {s : List ℕ} {w start : ℕ} {t : List ℕ} {f k : ℕ} → Reading s w start t f k → (f < w → 4 * length s ≤ k) → Drew s w start t f k
+reading-drew h e = record { within = h .within; all = reading-full h; short = λ m. reading-short h m (e m) }

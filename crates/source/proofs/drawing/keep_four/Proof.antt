@@ -1,9 +1,9 @@
--- `pair_sampler::drawing::keep_four` meets its contract: four stores, each where the one before has left off.
+-- `source::drawing::keep_four` meets its contract: four stores, each where the one before has left off.
 use mathlib.Core.Path.{_∙_}
 use native.Mathlib.Omega.{arith}
-use Rattle.pair_sampler.proofs.Draws.{counted-one, kept-four}
-use Rattle.pair_sampler.proofs.drawing.keep_four.Statement.{statement}
-use Rattle.pair_sampler.proofs.drawing.keep_four.Tie as tie
+use Rattle.source_model.proofs.Readings.{counted-one, kept-four}
+use Rattle.source.proofs.drawing.keep_four.Statement.{statement}
+use Rattle.source.proofs.drawing.keep_four.Tie as tie
 
 returns : tie.Need-returns
 returns c =
