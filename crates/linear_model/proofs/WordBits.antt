@@ -94,6 +94,13 @@ window-is n q x b f h h′ l p e =
     let w : k + q ≡ 64 = omega arith in
     rw (cut, or-part 64 k q (x / 2 ^ q) (b % 2 ^ q) (from q f) (omega arith) (λ i. l (q + i)) hi lo, w)
 
+-- the same of a word of a string and the byte after it
+pub window-at : (s : List ℕ) (i q x b : ℕ) → q ≤ 8 → x ≡ fromBits 64 (from (8 * i) (bit s)) → b ≡ getD s (i + 8) 0 → b < 256
+    → bitOr (x / 2 ^ q) (b * 2 ^ (64 - q) % 2 ^ 64) ≡ fromBits 64 (from (8 * i + q) (bit s))
+window-at s i q x b h e f l =
+    window-is 8 q x b (from (8 * i) (bit s)) h (omega arith) (λ j. bit-lt s (8 * i + j)) e (byte-part s i 8 b f l)
+    ∙ from-bits-ext 64 (from q (from (8 * i) (bit s))) (from (8 * i + q) (bit s)) (λ k _. ap (bit s) (omega arith))
+
 -- byte k of a word
 pub word-byte : (k x : ℕ) (f : ℕ → ℕ) → k < 8 → ((i : ℕ) → f i < 2) → x ≡ fromBits 64 f → x / 2 ^ (8 * k) % 2 ^ 8 ≡ fromBits 8 (from (8 * k) f)
 word-byte k x f h l p =

@@ -1,7 +1,7 @@
 -- The theorem: a draw reads the pairs from its start up to the place that it reports, and no other.
 use mathlib.Core.Path.{_≡_, sym, ap, _∙_}
 use mathlib.Core.List.{List, [], _∷_, _++_}
-use mathlib.Core.Bool.{Bool, not}
+use mathlib.Core.Bool.{not}
 use Prim.Native.Nat.{ℕ, _+_, _-_, _*_, _^_, _<_, _≤_}
 use native.Mathlib.Omega.{arith}
 use lib.Dec.{ltb}
@@ -10,7 +10,7 @@ use Rattle.numbers.specs.Number.{_when_, first}
 use Rattle.linear_model.specs.Trits.{packTrits}
 use Rattle.source_model.specs.Pair.{pair}
 use Rattle.source_model.specs.Draw.{Drawn, copied, draw, tritOf, drawn, tapeFrom, sourceConditions, sourceNumber}
-use Rattle.source_model.specs.Disjoint.{sampling, SameFrom, ReadsBetween, DisjointDraws}
+use Rattle.source_model.specs.Disjoint.{sampling, SameFrom, DisjointDraws}
 use Rattle.source_model.proofs.Draws.{draw-bounds, draw-local, draw-after}
 use Rattle.source_model.proofs.Conditions.{Enough, enough, is-enough}
 use Rattle.source_model.proofs.Copied.{copied-local}

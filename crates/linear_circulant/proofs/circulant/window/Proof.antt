@@ -1,12 +1,8 @@
 -- `linear_circulant::circulant::window` meets its contract. A word and the byte after it, shifted together.
-use mathlib.Core.Path.{_≡_, ap, _∙_}
+use mathlib.Core.Path.{_≡_, _∙_}
 use Prim.Native.Nat.{_+_, _*_}
 use native.Mathlib.Omega.{arith}
-use Rattle.linear_model.specs.Tables.{from}
-use Rattle.linear_model.specs.Bits.{bit}
-use Rattle.linear_model.proofs.NumberBits.{from-bits-ext}
-use Rattle.linear_model.proofs.Strings.{bit-lt}
-use Rattle.linear_model.proofs.WordBits.{byte-part, window-is}
+use Rattle.linear_model.proofs.WordBits.{window-at}
 use borrow.Author.Needs.{needs}
 use Rattle.linear_circulant.proofs.circulant.window.Statement.{statement}
 use Rattle.linear_circulant.proofs.circulant.window.Tie as tie
@@ -21,10 +17,8 @@ returns-2 : tie.Need-returns-2
 returns-2 c =
     let w = c .before .before .before in
     let a = w .before .before .args in
-    let b = bit (a .s .now) in
-    window-is 8 (a .q) _ _ (from (8 * a .i) b) (omega arith) (omega arith) (λ j. bit-lt (a .s .now) (8 * a .i + j)) (w .word-at .ensures)
-    (byte-part (a .s .now) (a .i) 8 _ (c .wide .ensures ∙ c .before .byte-at .ensures) (omega (arith, c .before .byte-at .ok, c .wide .ensures)))
-    ∙ from-bits-ext 64 (from (a .q) (from (8 * a .i) b)) (from (8 * a .i + a .q) b) (λ k _. ap b (omega arith))
+    window-at (a .s .now) (a .i) (a .q) _ _ (omega arith) (w .word-at .ensures) (c .wide .ensures ∙ c .before .byte-at .ensures)
+    (omega (arith, c .before .byte-at .ok, c .wide .ensures))
 
 pub window-spec : {M : Type 1} → statement M
 window-spec =

@@ -1,6 +1,5 @@
 -- `pair_dealer::dealer::deal_source_sized` meets its contract: the sampler's number and place, and the deal of its tape.
 use mathlib.Core.Path.{_≡_, refl, sym, ap, _∙_}
-use mathlib.Core.List.{List}
 use Prim.Native.Nat.{ℕ, _+_, _*_, _≤_}
 use native.Mathlib.Omega.{arith}
 use borrow.Author.Needs.{needs}

@@ -1,11 +1,11 @@
 -- `pair_sampler::packing::plane_byte` meets its contract. Bit h of byte k of a word is bit 8k + h of it.
 use mathlib.Core.Path.{_≡_, ap, _∙_}
-use Prim.Native.Nat.{ℕ, _+_, _*_, _/_, _%_, _<_, _≤_}
+use Prim.Native.Nat.{_+_, _*_, _/_, _%_}
 use native.Mathlib.Omega.{arith}
 use borrow.Author.Needs.{needs}
 use lib.ListN.{getD}
 use Rattle.linear_model.specs.Tables.{from}
-use Rattle.linear_model.specs.Bits.{bitAt, bit}
+use Rattle.linear_model.specs.Bits.{bit}
 use Rattle.linear_model.proofs.NumberBits.{from-bits-ext}
 use Rattle.linear_model.proofs.Strings.{bit-at}
 use Rattle.linear_model.proofs.WordBits.{word-bit-at}

@@ -34,18 +34,18 @@ pub copy-pairs-spec : {M : Type 1} → statement M
 copy-pairs-spec =
     tie.close
     (tie.spec
-    (λ c. search needs)
-    (λ c. search needs)
-    (λ c. search needs)
-    (λ c. search needs)
+    (λ c. omega (arith, leb-true))
+    (λ c. omega (arith, leb-true))
+    (λ c. omega arith)
+    (λ c. omega arith)
     (λ c. omega (arith, leb-true))
     (λ c κs. search needs)
-    (λ c. search needs)
+    (λ c. c .before .out .given)
     returns
-    (λ c. search needs)
+    (λ c. omega (arith, leb-true))
     (λ c κs. omega (arith, leb-true))
-    (λ c. search needs)
+    (λ c. c .before .out2 .given)
     returns-2
-    (λ c κs. search needs)
-    (λ c. search needs)
+    (λ c κs. (omega arith, omega arith))
+    (λ c. c .before .out3 .given)
     returns-3)

@@ -3,7 +3,6 @@ use mathlib.Core.Path.{_≡_, sym, ap, _∙_}
 use mathlib.Core.List.{List}
 use Prim.Native.Nat.{ℕ, _+_, _*_, _≤_}
 use native.Mathlib.Omega.{arith}
-use borrow.Author.Needs.{needs}
 use lib.ListN.{length}
 use Rattle.numbers.specs.Number.{output, reported}
 use Rattle.numbers.proofs.Outputs.{output-whole}
@@ -76,9 +75,9 @@ draw-from-spec =
     (λ c. omega (arith, c .if3 .left, c .before .if2 .left, c .before .before .if1 .left))
     (λ c κs. (c .before .before .before .if1 .left, omega (arith, c .before .if3 .left, c .before .before .if2 .left)))
     (λ c κs. tt)
-    (λ c. search needs)
+    (λ c. c .before .before .before .before .trits .given)
     returns-4
     (λ c κs. tt)
-    (λ c. search needs)
-    (λ c. search needs)
+    (λ c. c .before .bytes .given)
+    (λ c. c .before .before .before .before .before .before .before .trits .given)
     returns-5)
