@@ -5,12 +5,13 @@ use mathlib.Core.List.{List, [], _∷_}
 use mathlib.Core.Bool.{true}
 use Rattle.numbers.specs.Number.{_when_, first}
 use Rattle.numbers.specs.Lowest.{Lowest}
+use Rattle.source_model.specs.Disjoint.{sampling}
 use Rattle.source_model.specs.Evidence.{DrawEvidence}
 use Rattle.pair_model.specs.Scheme.{Side, other}
 use Rattle.pair_model.specs.Tape.{Accepted}
 use Rattle.pair_model.specs.Unit.{idleStage, doneStage, takeDeal, takeOpen, step}
 use Rattle.pair_model.specs.Base.{base}
-use Rattle.pair_model.specs.Sampler.{sampled}
+use Rattle.pair_model.specs.Sampler.{sampled, nextPair, sampleNumber}
 use Rattle.pair_model.specs.Dealer.{TakesAccepted}
 use Rattle.pair_model.specs.Run.{Protocol, protocol, Inputs, WellFormed, Run, runOf, Entry, SharedEntry, same, start, final, ListOf, firstOf, secondOf, Comparable}
 use Rattle.pair_model.specs.Theorem.{SameForFixed, Hides, Done, shareFrame, ownCode, Demand3}
@@ -46,6 +47,9 @@ pub record Evidence : Type 0 where
   -- the dealer takes exactly the accepted tapes, and the sampler makes such tapes
   pub dealer : TakesAccepted base
   pub sampler : (source : List ℕ) (s : ℕ) → Accepted base (sampled base source s)
+  -- it is the sampling that the theorem on draws speaks of, at document 01's numbers
+  pub samples : (source : List ℕ) (s : ℕ) → let A = sampling 192 256 32 in
+      (sampleNumber base source s 256 ≡ A .number source s) × (sampled base source s ≡ A .tape source s) × (nextPair base source s ≡ A .next source s)
   -- draws follow one another, and samplings that read a pair twice do not pass
   pub draws : DrawEvidence
   -- the code tells no more than itself

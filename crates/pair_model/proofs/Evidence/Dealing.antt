@@ -1,6 +1,6 @@
 -- The dealer takes exactly the accepted tapes, and the sampler makes accepted tapes.
 use Prim.Native.Nat.{ℕ, _+_, _-_, _*_, _<_}
-use mathlib.Core.Path.{_≡_, sym, ap, _∙_, subst}
+use mathlib.Core.Path.{_≡_, refl, sym, ap, _∙_, subst}
 use mathlib.Core.Logic.{_↔_}
 use mathlib.Core.List.{List, [], _∷_}
 use mathlib.Core.Bool.{Bool, cond, not}
@@ -16,10 +16,12 @@ use Rattle.linear_model.proofs.Vectors.{length-packTrits, bytes-packTrits, fit-
 use Rattle.numbers.specs.Number.{_when_, first, merge}
 use Rattle.pair_model.specs.Scheme.{Files, faultsIn, readingNumber, Scheme, field}
 use Rattle.pair_model.specs.Tape.{tapeBytes, r0, Accepted}
+use Rattle.source_model.specs.Disjoint.{sampling}
 use Rattle.source_model.specs.Draw.{copied, tritOf, drawn, tapeFrom}
 use Rattle.source_model.proofs.Draws.{drawn-small}
 use Rattle.source_model.proofs.Copied.{length-copied, bytes-copied}
-use Rattle.pair_model.specs.Sampler.{copiedBytes, wantedTrits, sampled}
+use Rattle.pair_model.specs.Base.{base}
+use Rattle.pair_model.specs.Sampler.{copiedBytes, wantedTrits, sampled, nextPair, sampleConditions, sampleNumber}
 use Rattle.pair_model.specs.Dealer.{dealtBytes, dealConditions, dealNumber}
 use Rattle.numbers.proofs.Numbers.{is-true, denied, equal, at-least, is-equal, Positive, none-holds, first-zero, first-merge}
 use Rattle.pair_model.proofs.Theorem.StepLaws.{fit-length, fit-faults}
@@ -110,3 +112,9 @@ module _ (S : Scheme) where
       where
         whole : copiedBytes S + (S .innerBytes + S .innerBytes) ≡ tapeBytes S
         whole = omega arith
+
+-- at document 01's sizes it is the sampling of 192 bytes and 256 trits
+pub sampler-is : (source : List ℕ) (s : ℕ) → let A = sampling 192 256 32 in
+    (sampleNumber base source s 256 ≡ A .number source s) × (sampled base source s ≡ A .tape source s) × (nextPair base source s ≡ A .next source s)
+unfolding first sampleConditions sampled nextPair
+sampler-is source s = (refl, refl, refl)

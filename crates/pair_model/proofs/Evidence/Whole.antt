@@ -10,7 +10,7 @@ use Rattle.pair_model.proofs.Evidence.Lowest.{lowest-numbers}
 use Rattle.pair_model.proofs.Evidence.Examples.{twelve-examples}
 use Rattle.pair_model.proofs.Evidence.Sample.{sample-compared}
 use Rattle.pair_model.proofs.Evidence.Strays.{shared-comparable}
-use Rattle.pair_model.proofs.Evidence.Dealing.{deal-accepted, sampled-accepted}
+use Rattle.pair_model.proofs.Evidence.Dealing.{deal-accepted, sampled-accepted, sampler-is}
 use Rattle.pair_model.proofs.Evidence.OtherShare.{other-share-frame}
 use Rattle.pair_model.specs.Leaky.{small}
 use Rattle.pair_model.proofs.Evidence.Small.{small-linear}
@@ -28,6 +28,7 @@ evidence =
       selfComparable = λ fixed run es. shared-comparable (protocol base) fixed run run es;
       dealer = λ lent. deal-accepted base lent tt;
       sampler = sampled-accepted base;
+      samples = sampler-is;
       draws = draw-evidence;
       share =
           λ fixed a b well₁ well₂ g.
