@@ -48,7 +48,7 @@ pub record Evidence : Type 0 where
   pub dealer : TakesAccepted base
   pub sampler : (source : List ℕ) (s : ℕ) → Accepted base (sampled base source s)
   -- it is the sampling that the theorem on draws speaks of, at document 01's numbers
-  pub samples : (source : List ℕ) (s : ℕ) → let A = sampling 192 256 32 in
+  pub samplerIs : (source : List ℕ) (s : ℕ) → let A = sampling 192 256 32 in
       (sampleNumber base source s 256 ≡ A .number source s) × (sampled base source s ≡ A .tape source s) × (nextPair base source s ≡ A .next source s)
   -- draws follow one another, and samplings that read a pair twice do not pass
   pub draws : DrawEvidence

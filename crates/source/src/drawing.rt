@@ -17,7 +17,7 @@ use numbers::table::SHORT_SOURCE;
 const SOURCE_LIMIT: usize = 0x4000_0000_0000_0000;
 
 // How many trits are found, and the next pair.
-pub struct Drawing {
+struct Drawing {
     pub found: usize,
     pub next: u64,
 }

@@ -148,12 +148,11 @@ pair-read {k = k} h l =
     after (yes e) = sym (after-none 1 k k (omega arith) refl) ∙ after-last k k e refl
     after (no n) = sym (after-pairs 1 k (k + 1) (omega arith) refl) ∙ after-pair k (k + 1) (omega arith) (omega arith)
 
--- a pair's number, from its byte and its place there
-number-of : (k : ℕ) → 4 * (k / 4) + k % 4 % 4 ≡ k
-number-of k = omega arith
-
+-- a pair by its number, from its byte and its place there
 pub pair-read-at : {s : List ℕ} {v b q : ℕ} (k : ℕ) → PairRead s (4 * (k / 4) + k % 4 % 4) v b q → PairRead s k v b q
-pair-read-at {s} {v} {b} {q} k h = subst (λ (x : ℕ). PairRead s x v b q) (number-of k) h
+pair-read-at {s} {v} {b} {q} k h =
+    let e : 4 * (k / 4) + k % 4 % 4 ≡ k = omega arith in
+    subst (λ (x : ℕ). PairRead s x v b q) e h
 
 -- four pairs from a place of one byte on end at that place of the next
 pub fours-read-next : {s : List ℕ} {v b q : ℕ} (byte at : ℕ) → PairsRead s 4 (4 * byte + at % 4) v b q → at < 4 → 4 * byte + at + 4 ≤ lastPair → b ≡ byte + 1

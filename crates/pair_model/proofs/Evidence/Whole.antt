@@ -28,7 +28,7 @@ evidence =
       selfComparable = λ fixed run es. shared-comparable (protocol base) fixed run run es;
       dealer = λ lent. deal-accepted base lent tt;
       sampler = sampled-accepted base;
-      samples = sampler-is;
+      samplerIs = sampler-is;
       draws = draw-evidence;
       share =
           λ fixed a b well₁ well₂ g.
