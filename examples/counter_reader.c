@@ -1,8 +1,9 @@
-/* The counter: checks a matrix file, adds two share frames to the code and prints its 81 digits.
+/* The counter: checks a matrix file, adds two share frames to the code and prints its digits.
  *
- *     counter_reader MATRIX SHARE0 SHARE1
+ *     counter_reader [SET] MATRIX SHARE0 SHARE1
  *
- * Ends with 0; with 1 and a sentence if the library refuses; with 2 if a file can't be read. */
+ * The set is 1 where none is named. Ends with 0; with 1 and a sentence if the library refuses; with 2 if it is called
+ * with other words, or a file can't be read. */
 #include "service_pair.h"
 #include "service_pair_text.h"
 
@@ -11,9 +12,9 @@
 
 /* What is for the counter alone, in one place, so that every way out of the program wipes it. */
 static struct {
-    uint8_t share0[PAIR_SHARE_FRAME_BYTES + 1], share1[PAIR_SHARE_FRAME_BYTES + 1];
-    uint8_t code[PAIR_CODE_BYTES];
-    char digits[PAIR_CODE_DIGITS + 1];
+    uint8_t share0[PAIR_MAX_SHARE_FRAME_BYTES + 1], share1[PAIR_MAX_SHARE_FRAME_BYTES + 1];
+    uint8_t code[PAIR_MAX_CODE_BYTES];
+    char digits[PAIR_MAX_DIGITS + 1];
 } held;
 
 static void wipe_held(void)
@@ -30,7 +31,17 @@ static void expect_ok(const char *what, uint32_t number)
     exit(1);
 }
 
-/* Reads a file into `room` bytes; they are one more than a fit file has, so that the library sees a
+/* A set as a word: one figure. Ends the program with 2 and a sentence where it is none. */
+static uint32_t set_of(const char *word)
+{
+    uint32_t set = (uint32_t)(word[0] - '0');
+    if (PAIR_BITS_OF(set) > 0 && word[1] == '\0')
+        return set;
+    fprintf(stderr, "%s, not '%s'\n", pair_number_text(PAIR_NO_SET), word);
+    exit(2);
+}
+
+/* Reads a file into `room` bytes; they are one more than a fit file of any set has, so that the library sees a
  * file that is too long, and judges it. */
 static size_t read_file(const char *path, uint8_t *bytes, size_t room)
 {
@@ -50,25 +61,27 @@ static size_t read_file(const char *path, uint8_t *bytes, size_t room)
 
 int main(int argc, char **argv)
 {
-    if (argc != 4) {
-        fprintf(stderr, "usage: counter_reader MATRIX SHARE0 SHARE1\n");
+    if (argc != 4 && argc != 5) {
+        fprintf(stderr, "usage: counter_reader [SET] MATRIX SHARE0 SHARE1\n");
         return 2;
     }
     if (atexit(wipe_held) != 0) {
         fprintf(stderr, "what is held could not be wiped at the end\n");
         return 2;
     }
-    uint8_t file[PAIR_FILE_BYTES + 1];
-    size_t file_n = read_file(argv[1], file, sizeof file);
-    expect_ok("matrix file", pair_matrix_check(file, file_n));
+    uint32_t set = argc == 5 ? set_of(argv[1]) : 1;
+    char **paths = argv + argc - 3;
+    static uint8_t file[PAIR_MAX_FILE_BYTES + 1];
+    size_t file_n = read_file(paths[0], file, sizeof file);
+    expect_ok("matrix file", pair_matrix_check(set, file, file_n));
 
-    size_t share0_n = read_file(argv[2], held.share0, sizeof held.share0);
-    size_t share1_n = read_file(argv[3], held.share1, sizeof held.share1);
-    uint32_t number = pair_join(held.share0, share0_n, held.share1, share1_n, held.code, sizeof held.code);
+    size_t share0_n = read_file(paths[1], held.share0, sizeof held.share0);
+    size_t share1_n = read_file(paths[2], held.share1, sizeof held.share1);
+    uint32_t number = pair_join(set, held.share0, share0_n, held.share1, share1_n, held.code, sizeof held.code);
     pair_wipe_stack();
     expect_ok("share frames", number);
 
-    pair_code_digits(held.code, held.digits);
+    pair_code_digits(set, held.code, held.digits);
     puts(held.digits);
     return 0;
 }

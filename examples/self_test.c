@@ -1,10 +1,10 @@
-/* What a host runs at power-on: a sample whose code is known, through matrix writer, dealer, both units and
- * the counter's join, and frames that must be refused.
+/* What a host runs at power-on: in each set a sample whose code is known, through matrix writer, dealer, both units
+ * and the counter's join, and frames, files and sets that must be refused.
  *
  *     self_test
  *
- * It needs no file and no random source. Prints a line and ends with 0; or says which check failed first,
- * and ends with 1. */
+ * It needs no file and no random source. Prints a line and ends with 0; or says which check failed first, in which
+ * set, and ends with 1. */
 #include "service_pair.h"
 #include "service_pair_text.h"
 
@@ -14,121 +14,267 @@
 
 /* The interface that this host was written for. Another one does not compile, where the host would else go
  * wrong; and a library of other lengths than this header's refuses the sample with 1. */
-#if PAIR_VERSION_MAJOR != 2 || PAIR_VERSION < PAIR_VERSION_OF(2, 0, 0)
-#error "this host is written for version 2 of service_pair.h"
+#if PAIR_VERSION_MAJOR != 3 || PAIR_VERSION < PAIR_VERSION_OF(3, 0, 0)
+#error "this host is written for version 3 of service_pair.h"
 #endif
 _Static_assert(sizeof(size_t) == sizeof(uint64_t), "the library is for 64 bits");
 
-enum { SESSION = 1, ROW_BYTES = PAIR_ROWS_BYTES / PAIR_CODE_DIGITS, STEPS = 3 };
+/* A state begins as a frame does, its set comes next, and then what is secret. */
+enum { SESSION = 1, STEPS = 3, SET_AT = PAIR_HEADER_BYTES, SECRET_AT, UNWRITTEN = 0xa5 };
 
-/* What pair_run takes, field by field. */
-struct sample {
-    uint8_t keys[2][PAIR_KEY_BYTES], labels[2][PAIR_LABEL_BYTES], tape[PAIR_TAPE_BYTES], file[PAIR_FILE_BYTES];
-};
-_Static_assert(sizeof(struct sample) == PAIR_INPUT_BYTES, "a run's input is these fields and nothing else");
+/* The set that is tested. */
+static uint32_t set;
 
 /* All that the test holds, in one place, to be wiped as a unit's own would be. */
 static struct {
-    struct sample sample;
-    uint8_t rows[PAIR_ROWS_BYTES], dealt[2][PAIR_DEAL_FRAME_BYTES], states[2][PAIR_STATE_BYTES];
+    uint8_t keys[2][PAIR_MAX_KEY_BYTES], labels[2][PAIR_MAX_LABEL_BYTES], tape[PAIR_MAX_TAPE_BYTES];
+    uint8_t rows[PAIR_MAX_ROWS_BYTES], file[PAIR_MAX_FILE_BYTES], dealt[PAIR_MAX_DEALT_BYTES];
+    uint8_t states[2][PAIR_STATE_BYTES];
     /* the frame that each unit is handed next; at last its share */
-    uint8_t frames[2][PAIR_DEAL_FRAME_BYTES], out[PAIR_STEP_OUTPUT_BYTES];
-    uint8_t key[PAIR_KEY_BYTES], label[PAIR_LABEL_BYTES], code[PAIR_CODE_BYTES];
-    char digits[PAIR_CODE_DIGITS + 1];
+    uint8_t frames[2][PAIR_MAX_DEAL_FRAME_BYTES];
+    /* a byte more than a call may write */
+    uint8_t out[PAIR_MAX_STEP_OUTPUT_BYTES + 1], code[PAIR_MAX_CODE_BYTES + 1];
+    uint8_t key[PAIR_MAX_KEY_BYTES], label[PAIR_MAX_LABEL_BYTES], input[PAIR_INPUT_BYTES];
+    char digits[PAIR_MAX_DIGITS + 1];
 } held;
-_Static_assert(sizeof held.dealt == PAIR_DEALT_BYTES, "both deal frames, one after the other");
 
 static const char *failed;
+static uint32_t failed_set;
 
 /* A failed check does not end the test: calls take any bytes, and all that is held is wiped at the end. */
 static void check(bool holds, const char *what)
 {
-    if (!holds && failed == NULL)
-        failed = what;
+    if (holds || failed != NULL)
+        return;
+    failed = what;
+    failed_set = set;
 }
 
-/* Row i has trit 1 in column i alone, so a code's digits are the inner vector's first 81 bits. The key is
+static bool all_are(uint8_t value, const uint8_t *bytes, size_t n)
+{
+    for (size_t i = 0; i < n; i++)
+        if (bytes[i] != value)
+            return false;
+    return true;
+}
+
+/* The length of the frame that a step takes, and after the last one of the share, in any set. */
+static size_t frame_bytes(uint32_t of_set, int step)
+{
+    const int bytes[STEPS + 1] = {PAIR_DEAL_FRAME_BYTES_OF(of_set), PAIR_OPEN_FRAME_BYTES_OF(of_set),
+                                  PAIR_MASK_FRAME_BYTES_OF(of_set), PAIR_SHARE_FRAME_BYTES_OF(of_set)};
+    return (size_t)bytes[step];
+}
+
+/* Row i has trit 1 in column i alone, so a code's digits are the inner vector's first bits. The key is
  * 01 and then zeros, the label 05, so the inner vector is 05. The second halves and the tape are zero. */
 static void make_sample(void)
 {
-    struct sample *sample = &held.sample;
-    for (int i = 0; i < PAIR_CODE_DIGITS; i++)
-        held.rows[i * ROW_BYTES + i / 8] = (uint8_t)(1 << i % 8);
-    sample->keys[0][0] = 1;
-    sample->labels[0][0] = 5;
-    check(pair_matrix_write(held.rows, sizeof held.rows, sample->file, sizeof sample->file) == PAIR_OK,
+    for (int i = 0; i < PAIR_DIGITS_OF(set); i++)
+        held.rows[i * PAIR_ROW_BYTES_OF(set) + i / 8] = (uint8_t)(1 << i % 8);
+    held.keys[0][0] = 1;
+    held.labels[0][0] = 5;
+    check(pair_matrix_write(set, held.rows, PAIR_ROWS_BYTES_OF(set), held.file, sizeof held.file) == PAIR_OK,
           "the matrix file is written");
-    check(pair_matrix_check(sample->file, sizeof sample->file) == PAIR_OK, "the matrix file is fit");
+    check(pair_matrix_check(set, held.file, PAIR_FILE_BYTES_OF(set)) == PAIR_OK, "the matrix file is fit");
 }
 
-static bool is_code(const uint8_t code[PAIR_CODE_BYTES])
+/* Whether the code, and no byte after it, was written over what clear_code has left. */
+static bool is_code(void)
 {
-    static const uint8_t known[PAIR_CODE_BYTES] = {5};
-    return memcmp(code, known, sizeof known) == 0;
+    static const uint8_t known[PAIR_MAX_CODE_BYTES] = {5};
+    size_t n = PAIR_CODE_BYTES_OF(set);
+    return memcmp(held.code, known, n) == 0 && all_are(UNWRITTEN, held.code + n, sizeof held.code - n);
 }
+
+static void clear_code(void)
+{
+    memset(held.code, UNWRITTEN, sizeof held.code);
+}
+
+/* ---- sets */
+
+/* A block's check: two sums modulo 255. */
+static void make_block_check(uint8_t block[PAIR_BLOCK_BYTES])
+{
+    unsigned first = 0, second = 0;
+    for (int i = 0; i < PAIR_BLOCK_BYTES - 2; i++) {
+        first = (first + block[i]) % 255;
+        second = (second + first) % 255;
+    }
+    block[PAIR_BLOCK_BYTES - 2] = (uint8_t)first;
+    block[PAIR_BLOCK_BYTES - 1] = (uint8_t)second;
+}
+
+/* Blocks have their set in byte 3. */
+static void name_set_in_file(uint32_t named)
+{
+    held.file[3] = (uint8_t)named;
+    make_block_check(held.file);
+}
+
+/* The file of this set under another, which has another length; and a block of another set in it. */
+static void check_file_of_other_set(void)
+{
+    size_t file_n = PAIR_FILE_BYTES_OF(set), n = PAIR_KEY_BYTES_OF(set);
+    uint32_t other = set % PAIR_SETS + 1;
+    check(pair_matrix_check(other, held.file, file_n) == PAIR_WRONG_LENGTH,
+          "a file of another set is refused by its length");
+    name_set_in_file(other);
+    check(pair_matrix_check(set, held.file, file_n) == PAIR_BLOCK_LAYOUT &&
+              pair_matrix_read(set, held.file, file_n, held.rows, sizeof held.rows) == PAIR_BLOCK_LAYOUT &&
+              pair_evaluate(set, held.key, n, held.label, n, held.file, file_n, held.code, sizeof held.code) ==
+                  PAIR_BLOCK_LAYOUT,
+          "a block of another set is refused by its number");
+    name_set_in_file(set);
+}
+
+/* A beginning with a wrong side and empty halves, for state slices of two lengths. */
+static void check_refused_beginning(uint32_t right)
+{
+    uint8_t *state = held.states[0];
+    memset(state, UNWRITTEN, PAIR_STATE_BYTES);
+    check(pair_begin(set, 2, SESSION, held.key, 0, held.label, 0, state, PAIR_STATE_BYTES - 1) == right,
+          "a beginning is refused by its number");
+    check(all_are(UNWRITTEN, state, PAIR_STATE_BYTES), "a state slice of another length is left as it was");
+    check(pair_begin(set, 2, SESSION, held.key, 0, held.label, 0, state, PAIR_STATE_BYTES) == right,
+          "a beginning is refused by its number");
+    check(state[SET_AT] == 1 && all_are(0, state, SET_AT) &&
+              all_are(0, state + SECRET_AT, PAIR_STATE_BYTES - SECRET_AT),
+          "a refused beginning writes the idle state");
+}
+
+/* The calls that name a set, with a number that is none. Inputs are empty, so 1, 3 or 13 would be right for a set. */
+static void check_without_set(void)
+{
+    const uint8_t *in = held.file;
+    uint8_t *out = held.out;
+    size_t out_n = sizeof held.out;
+    uint64_t next = 1, dealt_next = 1;
+    memset(out, UNWRITTEN, out_n);
+    const uint32_t numbers[] = {
+        pair_matrix_check(set, in, 0),
+        pair_matrix_write(set, in, 0, out, out_n),
+        pair_matrix_read(set, in, 0, out, out_n),
+        pair_evaluate(set, in, 0, in, 0, in, 0, out, out_n),
+        pair_sample(set, 0, in, 0, out, out_n, &next),
+        pair_deal(set, SESSION, in, 0, out, out_n),
+        pair_deal_source(set, SESSION, 0, in, 0, out, out_n, &dealt_next),
+        pair_join(set, in, 0, in, 0, out, out_n),
+    };
+    for (size_t i = 0; i < sizeof numbers / sizeof numbers[0]; i++)
+        check(numbers[i] == PAIR_NO_SET, "a number that is no set is refused before all else");
+    check(all_are(UNWRITTEN, out, out_n), "a call without a set writes nothing");
+    check(next == 0 && dealt_next == 0, "a call without a set sets a place to 0");
+    check_refused_beginning(PAIR_NO_SET);
+}
+
+/* ---- units */
 
 /* The numbers of a frame with one changed byte in its header. */
 static const uint32_t header_numbers[PAIR_HEADER_BYTES] = {PAIR_NO_KIND,       PAIR_OTHER_SIDE,    PAIR_OTHER_SESSION,
                                                            PAIR_OTHER_SESSION, PAIR_OTHER_SESSION, PAIR_OTHER_SESSION};
 
-/* Hands a unit a frame that it must refuse, and looks that it has changed nothing. */
-static void check_refused(int side, const uint8_t *frame, size_t n, uint32_t right, const char *what)
+/* What a unit is handed, and how much of its state and of the room for its answer. */
+struct handed {
+    const uint8_t *frame;
+    size_t frame_n, state_n, out_n;
+};
+
+/* A frame, with a whole state and the least room. */
+static struct handed a_frame(const uint8_t *frame, size_t n)
 {
-    uint8_t state[PAIR_STATE_BYTES], out[PAIR_STEP_OUTPUT_BYTES];
+    return (struct handed){frame, n, PAIR_STATE_BYTES, PAIR_STEP_OUTPUT_BYTES_OF(set)};
+}
+
+/* Hands a unit what it must refuse, and looks that it has changed nothing. */
+static void check_refused(int side, struct handed handed, uint32_t right, const char *what)
+{
+    uint8_t state[PAIR_STATE_BYTES];
     uint64_t written = 1;
     memcpy(state, held.states[side], sizeof state);
-    memset(held.out, 0xa5, sizeof held.out);
-    memcpy(out, held.out, sizeof out);
-    uint32_t number = pair_step(held.states[side], sizeof held.states[side], frame, n, held.sample.file,
-                                sizeof held.sample.file, held.out, sizeof held.out, &written);
+    memset(held.out, UNWRITTEN, sizeof held.out);
+    uint32_t number = pair_step(held.states[side], handed.state_n, handed.frame, handed.frame_n, held.file,
+                                PAIR_FILE_BYTES_OF(set), held.out, handed.out_n, &written);
     check(number == right, what);
     check(memcmp(state, held.states[side], sizeof state) == 0, "a refused frame leaves the state as it was");
-    check(memcmp(out, held.out, sizeof out) == 0 && written == 0, "a refused frame writes nothing");
+    check(all_are(UNWRITTEN, held.out, sizeof held.out) && written == 0, "a refused frame writes nothing");
     pair_wipe(state, sizeof state);
 }
 
-/* The frame that is waited for, damaged: each byte of its header, and cut. */
-static void check_damaged(int side, size_t n)
+/* The frame that is waited for, damaged: each byte of its header, cut, and with another set's length. */
+static void check_damaged(int side, int step)
 {
     uint8_t *frame = held.frames[side];
+    size_t n = frame_bytes(set, step), other_n = frame_bytes(set % PAIR_SETS + 1, step);
     for (int i = 0; i < PAIR_HEADER_BYTES; i++) {
         frame[i] ^= 0x80;
-        check_refused(side, frame, n, header_numbers[i], "a frame with a damaged header is refused by its number");
+        check_refused(side, a_frame(frame, n), header_numbers[i],
+                      "a frame with a damaged header is refused by its number");
         frame[i] ^= 0x80;
     }
-    check_refused(side, frame, n - 1, PAIR_FRAME_LENGTH, "a cut frame is refused by its number");
-    check_refused(side, frame, PAIR_HEADER_BYTES - 1, PAIR_NO_KIND, "a cut header is refused by its number");
+    check_refused(side, a_frame(frame, n - 1), PAIR_FRAME_LENGTH, "a cut frame is refused by its number");
+    check_refused(side, a_frame(frame, PAIR_HEADER_BYTES - 1), PAIR_NO_KIND, "a cut header is refused by its number");
+    check_refused(side, a_frame(frame, other_n), PAIR_FRAME_LENGTH, "a frame of another set is refused by its length");
+}
+
+/* The frame that is waited for, but too little of the state or of the room, or a file with a block of another set. */
+static void check_slices(int side, int step)
+{
+    const struct handed whole = a_frame(held.frames[side], frame_bytes(set, step));
+    struct handed handed = whole;
+    handed.state_n--;
+    check_refused(side, handed, PAIR_WRONG_LENGTH, "a step wants a whole state");
+    handed = whole;
+    handed.out_n--;
+    check_refused(side, handed, PAIR_WRONG_LENGTH, "a step wants its set's room for an answer");
+    if (step < STEPS - 1)
+        return;
+    name_set_in_file(set % PAIR_SETS + 1);
+    check_refused(side, whole, PAIR_BLOCK_LAYOUT, "a step with a block of another set is refused by its number");
+    name_set_in_file(set);
 }
 
 static void begin_units(void)
 {
-    struct sample *sample = &held.sample;
-    check(pair_deal(SESSION, sample->tape, sizeof sample->tape, held.dealt[0], sizeof held.dealt) == PAIR_OK,
+    size_t n = frame_bytes(set, 0);
+    check(pair_deal(set, SESSION, held.tape, PAIR_TAPE_BYTES_OF(set), held.dealt, sizeof held.dealt) == PAIR_OK,
           "the dealer deals");
-    memcpy(held.frames, held.dealt, sizeof held.dealt);
     for (int side = 0; side < 2; side++) {
-        check(pair_begin((uint32_t)side, SESSION, sample->keys[side], PAIR_KEY_BYTES, sample->labels[side],
-                         PAIR_LABEL_BYTES, held.states[side], PAIR_STATE_BYTES) == PAIR_OK,
+        uint8_t *state = held.states[side];
+        memcpy(held.frames[side], held.dealt + (size_t)side * n, n);
+        check(pair_begin(set, (uint32_t)side, SESSION, held.keys[side], PAIR_KEY_BYTES_OF(set), held.labels[side],
+                         PAIR_LABEL_BYTES_OF(set), state, PAIR_STATE_BYTES) == PAIR_OK,
               "a unit begins");
-        check(held.states[side][0] == PAIR_STAGE_AWAITS_DEAL, "a unit that has begun waits for its deal");
+        check(state[0] == PAIR_STAGE_AWAITS_DEAL, "a unit that has begun waits for its deal");
+        check(state[SET_AT] == set, "a unit that has begun has its set");
     }
+}
+
+/* One step of a unit, with an output slice as short as it may be. */
+static void step_unit(int side, int step)
+{
+    static const uint8_t stages[STEPS] = {PAIR_STAGE_AWAITS_OPEN, PAIR_STAGE_AWAITS_MASK, PAIR_STAGE_DONE};
+    uint64_t written;
+    check_damaged(side, step);
+    check_slices(side, step);
+    memset(held.out, UNWRITTEN, sizeof held.out);
+    check(pair_step(held.states[side], PAIR_STATE_BYTES, held.frames[side], frame_bytes(set, step), held.file,
+                    PAIR_FILE_BYTES_OF(set), held.out, PAIR_STEP_OUTPUT_BYTES_OF(set), &written) == PAIR_OK,
+          "a unit takes the frame that it waits for");
+    size_t n = frame_bytes(set, step + 1);
+    check(written == n, "a unit's frame has its kind's length");
+    check(all_are(UNWRITTEN, held.out + n, sizeof held.out - n), "a unit writes its frame and nothing after it");
+    check(held.states[side][0] == stages[step], "a unit goes on to its next stage");
 }
 
 /* One step of both units, each with the frame of the one before. */
 static void step_units(int step)
 {
-    static const size_t frame_bytes[STEPS + 1] = {PAIR_DEAL_FRAME_BYTES, PAIR_OPEN_FRAME_BYTES, PAIR_MASK_FRAME_BYTES,
-                                                  PAIR_SHARE_FRAME_BYTES};
-    static const uint8_t stages[STEPS] = {PAIR_STAGE_AWAITS_OPEN, PAIR_STAGE_AWAITS_MASK, PAIR_STAGE_DONE};
-    uint8_t sent[2][PAIR_STEP_OUTPUT_BYTES] = {{0}};
+    uint8_t sent[2][PAIR_MAX_STEP_OUTPUT_BYTES];
     for (int side = 0; side < 2; side++) {
-        uint64_t written;
-        check_damaged(side, frame_bytes[step]);
-        check(pair_step(held.states[side], PAIR_STATE_BYTES, held.frames[side], frame_bytes[step], held.sample.file,
-                        sizeof held.sample.file, sent[side], sizeof sent[side], &written) == PAIR_OK,
-              "a unit takes the frame that it waits for");
-        check(written == frame_bytes[step + 1], "a unit's frame has its kind's length");
-        check(held.states[side][0] == stages[step], "a unit goes on to its next stage");
+        step_unit(side, step);
+        memcpy(sent[side], held.out, sizeof sent[side]);
     }
     /* A share frame goes to the counter, the others to the other unit. */
     for (int side = 0; side < 2; side++)
@@ -137,65 +283,108 @@ static void step_units(int step)
 
 static void check_done(void)
 {
-    static const uint8_t zeros[PAIR_STATE_BYTES - PAIR_HEADER_BYTES];
+    size_t n = frame_bytes(set, 0);
     for (int side = 0; side < 2; side++) {
-        check(memcmp(held.states[side] + PAIR_HEADER_BYTES, zeros, sizeof zeros) == 0, "a done unit keeps no secret");
-        check_refused(side, held.dealt[side], PAIR_DEAL_FRAME_BYTES, PAIR_NOT_WAITED_FOR, "a done unit takes no frame");
+        const uint8_t *state = held.states[side];
+        check(state[1] == side && state[2] == SESSION && all_are(0, state + 3, 3) && state[SET_AT] == set,
+              "a done unit keeps its side, session and set");
+        check(all_are(0, state + SECRET_AT, PAIR_STATE_BYTES - SECRET_AT), "a done unit keeps no secret");
+        check_refused(side, a_frame(held.dealt + (size_t)side * n, n), PAIR_NOT_WAITED_FOR,
+                      "a done unit takes no frame");
     }
 }
+
+/* ---- the counter, and the whole in one place */
 
 static void check_join(void)
 {
-    uint8_t *share0 = held.frames[0], *share1 = held.frames[1], code[PAIR_CODE_BYTES];
-    size_t n = PAIR_SHARE_FRAME_BYTES;
-    memset(held.code, 0xa5, sizeof held.code);
-    memcpy(code, held.code, sizeof code);
+    uint8_t *share0 = held.frames[0], *share1 = held.frames[1];
+    size_t n = frame_bytes(set, STEPS), code_n = PAIR_CODE_BYTES_OF(set);
+    clear_code();
     for (int i = 0; i < PAIR_HEADER_BYTES; i++) {
         share1[i] ^= 0x80;
-        check(pair_join(share0, n, share1, n, held.code, sizeof held.code) == header_numbers[i],
+        check(pair_join(set, share0, n, share1, n, held.code, code_n) == header_numbers[i],
               "a share with a damaged header is refused by its number");
         share1[i] ^= 0x80;
     }
-    check(pair_join(share0, n, share1, n - 1, held.code, sizeof held.code) == PAIR_FRAME_LENGTH,
+    check(pair_join(set, share0, n, share1, n - 1, held.code, code_n) == PAIR_FRAME_LENGTH,
           "a cut share is refused by its number");
-    check(memcmp(code, held.code, sizeof code) == 0, "a refused share writes nothing");
-    check(pair_join(share0, n, share1, n, held.code, sizeof held.code) == PAIR_OK, "the counter joins");
-    check(is_code(held.code), "two units give the sample's code");
-    pair_code_digits(held.code, held.digits);
-    check(strncmp(held.digits, "101", 3) == 0 && strspn(held.digits + 3, "0") == PAIR_CODE_DIGITS - 3,
-          "the code's digits are 101 and 78 zeros");
+    check(pair_join(set % PAIR_SETS + 1, share0, n, share1, n, held.code, sizeof held.code) == PAIR_FRAME_LENGTH,
+          "a share of another set is refused by its length");
+    check(all_are(UNWRITTEN, held.code, sizeof held.code), "a refused share writes nothing");
+    check(pair_join(set, share0, n, share1, n, held.code, code_n) == PAIR_OK, "the counter joins");
+    check(is_code(), "two units give the sample's code and no byte more");
+    pair_code_digits(set, held.code, held.digits);
+    check(strncmp(held.digits, "101", 3) == 0 && strlen(held.digits) == (size_t)PAIR_DIGITS_OF(set) &&
+              strspn(held.digits + 3, "0") == strlen(held.digits) - 3,
+          "the code's digits are 101 and zeros");
 }
 
-/* The same in one place, and by the evaluator on the sums of the halves. */
-static void check_others(void)
+/* The evaluator, on the sums of the halves. */
+static void check_evaluator(void)
 {
-    const struct sample *sample = &held.sample;
-    check(pair_run((const uint8_t *)sample, sizeof *sample, held.code, sizeof held.code) == PAIR_OK,
-          "a whole run is accepted");
-    check(is_code(held.code), "a whole run gives the sample's code");
-    for (int i = 0; i < PAIR_KEY_BYTES; i++) {
-        held.key[i] = sample->keys[0][i] ^ sample->keys[1][i];
-        held.label[i] = sample->labels[0][i] ^ sample->labels[1][i];
+    size_t n = PAIR_KEY_BYTES_OF(set);
+    for (size_t i = 0; i < n; i++) {
+        held.key[i] = held.keys[0][i] ^ held.keys[1][i];
+        held.label[i] = held.labels[0][i] ^ held.labels[1][i];
     }
-    check(pair_evaluate(held.key, sizeof held.key, held.label, sizeof held.label, sample->file, sizeof sample->file,
-                        held.code, sizeof held.code) == PAIR_OK,
+    clear_code();
+    check(pair_evaluate(set, held.key, n, held.label, n, held.file, PAIR_FILE_BYTES_OF(set), held.code,
+                        sizeof held.code) == PAIR_OK,
           "the evaluator evaluates");
-    check(is_code(held.code), "the evaluator gives the sample's code");
+    check(is_code(), "the evaluator gives the sample's code and no byte more");
 }
 
-/* The first check that failed, or NULL. */
-static const char *self_test(void)
+static uint8_t *put(uint8_t *to, const uint8_t *bytes, size_t n)
 {
-    failed = NULL;
+    memcpy(to, bytes, n);
+    return to + n;
+}
+
+/* A whole run in one place, which set 1 alone has. */
+static void check_run(void)
+{
+    uint8_t *to = held.input;
+    for (int side = 0; side < 2; side++)
+        to = put(to, held.keys[side], PAIR_KEY_BYTES);
+    for (int side = 0; side < 2; side++)
+        to = put(to, held.labels[side], PAIR_LABEL_BYTES);
+    to = put(to, held.tape, PAIR_TAPE_BYTES);
+    to = put(to, held.file, PAIR_FILE_BYTES);
+    clear_code();
+    check(pair_run(held.input, (size_t)(to - held.input), held.code, sizeof held.code) == PAIR_OK,
+          "a whole run is accepted");
+    check(is_code(), "a whole run gives the sample's code and no byte more");
+}
+
+static void test_set(void)
+{
     make_sample();
+    check_file_of_other_set();
+    check_refused_beginning(PAIR_WRONG_LENGTH);
     begin_units();
     for (int step = 0; step < STEPS; step++)
         step_units(step);
     check_done();
     check_join();
-    check_others();
+    check_evaluator();
+    if (set == 1)
+        check_run();
     /* Whatever came out. */
     pair_wipe(&held, sizeof held);
+}
+
+/* The first check that failed, or NULL. */
+static const char *self_test(void)
+{
+    static const uint32_t none[] = {0, PAIR_SETS + 1, UINT32_MAX};
+    failed = NULL;
+    for (size_t i = 0; i < sizeof none / sizeof none[0]; i++) {
+        set = none[i];
+        check_without_set();
+    }
+    for (set = 1; set <= PAIR_SETS; set++)
+        test_set();
     pair_wipe_stack();
     return failed;
 }
@@ -204,7 +393,7 @@ int main(void)
 {
     const char *check_failed = self_test();
     if (check_failed != NULL) {
-        fprintf(stderr, "self-test failed: %s\n", check_failed);
+        fprintf(stderr, "self-test failed with set %u: %s\n", (unsigned)failed_set, check_failed);
         return 1;
     }
     printf("self-test passed, interface %d.%d.%d\n", PAIR_VERSION_MAJOR, PAIR_VERSION_MINOR, PAIR_VERSION_PATCH);

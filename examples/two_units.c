@@ -1,11 +1,11 @@
 /* Both units in processes of their own, with the dealer and the counter in this one, over sockets:
  *
- *     two_units [FOLDER]
+ *     two_units [SET [FOLDER]]
  *
  * It draws a matrix, halves and the dealer's source bytes from the system's random source, lets the units run
  * some sessions, joins their shares and compares each code with the evaluator's. The dealer has one source for
- * all sessions, and goes on in it where the last draw ended. With a folder it also leaves there what a counter
- * has of the last session: `matrix`, `share0` and `share1`, for counter_reader.
+ * all sessions, and goes on in it where the last draw ended. The set is 1 where none is named. With a folder it also
+ * leaves there what a counter has of the last session: `matrix`, `share0` and `share1`, for counter_reader.
  *
  * So that the codes can be compared, this process also plays the owners, who hand each unit its halves.
  * A real dealer or counter never sees a half, and the two units are at two owners. */
@@ -22,20 +22,28 @@
 #include <sys/wait.h>
 #include <unistd.h>
 
-/* A host counts its sessions, and uses no number twice. Each takes some of the dealer's source. */
-enum { SESSIONS = 3, SOURCE_BYTES = PAIR_SOURCE_BYTES + (SESSIONS - 1) * PAIR_MORE_SOURCE_BYTES };
+/* A host counts its sessions, and uses no number twice. */
+enum { SESSIONS = 3 };
+
+/* The set of all that runs here, chosen before the units start. A host of one set writes its number instead, and
+ * its buffers have the lengths of that set. */
+static uint32_t set = 1;
+
+/* Each session takes some of the dealer's source. */
+#define ALL_SOURCE_BYTES_OF(set) (PAIR_SOURCE_BYTES_OF(set) + (SESSIONS - 1) * PAIR_MORE_SOURCE_BYTES_OF(set))
 
 /* All that is secret in this process, in one place, so that every way out of it wipes it. Each process has
  * its own: the units are started before anything is drawn. A message has room for a byte more than it may
  * have, so that one that is too long is seen to be, and the library refuses it. */
 static struct {
     /* the owners' */
-    uint8_t keys[2][PAIR_KEY_BYTES], labels[2][PAIR_LABEL_BYTES], key[PAIR_KEY_BYTES], label[PAIR_LABEL_BYTES];
+    uint8_t keys[2][PAIR_MAX_KEY_BYTES], labels[2][PAIR_MAX_LABEL_BYTES];
+    uint8_t key[PAIR_MAX_KEY_BYTES], label[PAIR_MAX_LABEL_BYTES];
     /* the dealer's */
-    uint8_t source[SOURCE_BYTES], dealt[PAIR_DEALT_BYTES];
+    uint8_t source[ALL_SOURCE_BYTES_OF(PAIR_SETS)], dealt[PAIR_MAX_DEALT_BYTES];
     /* a unit's */
-    uint8_t key_half[PAIR_KEY_BYTES + 1], label_half[PAIR_LABEL_BYTES + 1], state[PAIR_STATE_BYTES];
-    uint8_t frame[PAIR_DEAL_FRAME_BYTES + 1];
+    uint8_t key_half[PAIR_MAX_KEY_BYTES + 1], label_half[PAIR_MAX_LABEL_BYTES + 1], state[PAIR_STATE_BYTES];
+    uint8_t frame[PAIR_MAX_DEAL_FRAME_BYTES + 1];
 } secret;
 
 static void wipe_secret(void)
@@ -94,11 +102,11 @@ static size_t receive(int from, uint8_t *bytes, size_t room)
 /* One session of a unit: three frames in, three frames out. It shows nothing of what it holds. */
 static void unit_session(uint32_t side, uint32_t session, const uint8_t *file, size_t file_n, int home, int other)
 {
-    uint8_t out[PAIR_STEP_OUTPUT_BYTES];
+    uint8_t out[PAIR_MAX_STEP_OUTPUT_BYTES];
     size_t key_n = receive(home, secret.key_half, sizeof secret.key_half);
     size_t label_n = receive(home, secret.label_half, sizeof secret.label_half);
     const char *what = "beginning";
-    uint32_t number = pair_begin(side, session, secret.key_half, key_n, secret.label_half, label_n, secret.state,
+    uint32_t number = pair_begin(set, side, session, secret.key_half, key_n, secret.label_half, label_n, secret.state,
                                  sizeof secret.state);
     /* From here on the state has the halves. */
     pair_wipe(secret.key_half, sizeof secret.key_half);
@@ -121,28 +129,28 @@ static void unit_session(uint32_t side, uint32_t session, const uint8_t *file, s
 /* One unit, in a process of its own. */
 static void unit(uint32_t side, int home, int other)
 {
-    uint8_t file[PAIR_FILE_BYTES + 1];
+    static uint8_t file[PAIR_MAX_FILE_BYTES + 1];
     size_t file_n = receive(home, file, sizeof file);
     /* The step with the mask frame judges it too, but then two frames have been sent already. */
-    expect_ok("matrix file", pair_matrix_check(file, file_n));
+    expect_ok("matrix file", pair_matrix_check(set, file, file_n));
     for (uint32_t session = 1; session <= SESSIONS; session++)
         unit_session(side, session, file, file_n, home, other);
     exit(0);
 }
 
-/* A public matrix for the show. The last 64 bytes of a tape are 256 uniform trits: a row. No dealer uses
+/* A public matrix for the show. The last quarter of a tape are uniform trits, as many as a row has. No dealer uses
  * these tapes, so they are no secret. */
-static void draw_matrix(uint8_t file[PAIR_FILE_BYTES])
+static void draw_matrix(uint8_t file[PAIR_MAX_FILE_BYTES])
 {
-    enum { ROW = 64 };
-    uint8_t rows[PAIR_ROWS_BYTES], source[PAIR_SOURCE_BYTES], tape[PAIR_TAPE_BYTES];
+    uint8_t rows[PAIR_MAX_ROWS_BYTES], source[PAIR_MAX_SOURCE_BYTES], tape[PAIR_MAX_TAPE_BYTES];
+    size_t rows_n = PAIR_ROWS_BYTES_OF(set), row_n = PAIR_ROW_BYTES_OF(set), source_n = PAIR_SOURCE_BYTES_OF(set);
     uint64_t next;
-    for (size_t at = 0; at < sizeof rows; at += ROW) {
-        draw(source, sizeof source);
-        expect_ok("sampler", pair_sample(0, source, sizeof source, tape, sizeof tape, &next));
-        memcpy(rows + at, tape + sizeof tape - ROW, ROW);
+    for (size_t at = 0; at < rows_n; at += row_n) {
+        draw(source, source_n);
+        expect_ok("sampler", pair_sample(set, 0, source, source_n, tape, sizeof tape, &next));
+        memcpy(rows + at, tape + PAIR_TAPE_BYTES_OF(set) - row_n, row_n);
     }
-    expect_ok("matrix", pair_matrix_write(rows, sizeof rows, file, PAIR_FILE_BYTES));
+    expect_ok("matrix", pair_matrix_write(set, rows, rows_n, file, PAIR_FILE_BYTES_OF(set)));
 }
 
 /* A unit at one owner's: its socket to this process, and its process. */
@@ -154,15 +162,16 @@ struct place {
 /* The dealer: deal frame i goes to unit i alone. Gives the pair of its source at which the next draw begins. */
 static uint64_t deal(uint32_t session, uint64_t start, const struct place places[2])
 {
+    size_t n = PAIR_DEAL_FRAME_BYTES_OF(set);
     uint64_t next;
-    uint32_t number = pair_deal_source(session, start, secret.source, sizeof secret.source, secret.dealt,
+    uint32_t number = pair_deal_source(set, session, start, secret.source, ALL_SOURCE_BYTES_OF(set), secret.dealt,
                                        sizeof secret.dealt, &next);
     pair_wipe_stack();
     expect_ok("dealer", number);
     /* The next draw may begin inside a byte, which stays. */
     pair_wipe(secret.source, (size_t)(next / 4));
     for (int side = 0; side < 2; side++)
-        send_bytes(places[side].socket, secret.dealt + side * PAIR_DEAL_FRAME_BYTES, PAIR_DEAL_FRAME_BYTES);
+        send_bytes(places[side].socket, secret.dealt + (size_t)side * n, n);
     pair_wipe(secret.dealt, sizeof secret.dealt);
     return next;
 }
@@ -216,82 +225,103 @@ static void expect_end(int side, pid_t process)
     }
 }
 
-static void show(const char *what, const uint8_t code[PAIR_CODE_BYTES])
+static void show(const char *what, const uint8_t code[PAIR_MAX_CODE_BYTES])
 {
-    char digits[PAIR_CODE_DIGITS + 1];
-    pair_code_digits(code, digits);
+    char digits[PAIR_MAX_DIGITS + 1];
+    pair_code_digits(set, code, digits);
     printf("%s  %s\n", what, digits);
 }
 
 /* The owners. Halves are drawn after the fork: no unit's memory has the other's. */
 static void hand_out_halves(const struct place places[2])
 {
+    size_t key_n = PAIR_KEY_BYTES_OF(set), label_n = PAIR_LABEL_BYTES_OF(set);
     for (int side = 0; side < 2; side++) {
-        draw(secret.keys[side], PAIR_KEY_BYTES);
-        draw(secret.labels[side], PAIR_LABEL_BYTES);
-        send_bytes(places[side].socket, secret.keys[side], PAIR_KEY_BYTES);
-        send_bytes(places[side].socket, secret.labels[side], PAIR_LABEL_BYTES);
+        draw(secret.keys[side], key_n);
+        draw(secret.labels[side], label_n);
+        send_bytes(places[side].socket, secret.keys[side], key_n);
+        send_bytes(places[side].socket, secret.labels[side], label_n);
     }
 }
 
 /* What the counter gets. */
 struct shares {
-    uint8_t bytes[2][PAIR_SHARE_FRAME_BYTES + 1];
+    uint8_t bytes[2][PAIR_MAX_SHARE_FRAME_BYTES + 1];
     size_t n[2];
 };
 
 /* The counter. */
-static void join(const struct place places[2], struct shares *shares, uint8_t code[PAIR_CODE_BYTES])
+static void join(const struct place places[2], struct shares *shares, uint8_t code[PAIR_MAX_CODE_BYTES])
 {
     for (int side = 0; side < 2; side++)
         shares->n[side] = receive(places[side].socket, shares->bytes[side], sizeof shares->bytes[side]);
-    expect_ok("join", pair_join(shares->bytes[0], shares->n[0], shares->bytes[1], shares->n[1], code, PAIR_CODE_BYTES));
+    expect_ok("join", pair_join(set, shares->bytes[0], shares->n[0], shares->bytes[1], shares->n[1], code,
+                                PAIR_MAX_CODE_BYTES));
     show("two units", code);
 }
 
 /* The evaluator, on the sums of the halves. */
-static void evaluate(const uint8_t file[PAIR_FILE_BYTES], uint8_t code[PAIR_CODE_BYTES])
+static void evaluate(const uint8_t file[PAIR_MAX_FILE_BYTES], uint8_t code[PAIR_MAX_CODE_BYTES])
 {
-    for (size_t i = 0; i < PAIR_KEY_BYTES; i++) {
+    size_t n = PAIR_KEY_BYTES_OF(set);
+    for (size_t i = 0; i < n; i++) {
         secret.key[i] = secret.keys[0][i] ^ secret.keys[1][i];
         secret.label[i] = secret.labels[0][i] ^ secret.labels[1][i];
     }
-    uint32_t number = pair_evaluate(secret.key, sizeof secret.key, secret.label, sizeof secret.label, file,
-                                    PAIR_FILE_BYTES, code, PAIR_CODE_BYTES);
+    uint32_t number = pair_evaluate(set, secret.key, n, secret.label, n, file, PAIR_FILE_BYTES_OF(set), code,
+                                    PAIR_MAX_CODE_BYTES);
     pair_wipe_stack();
     expect_ok("evaluator", number);
     show("evaluator", code);
 }
 
+/* A set as a word: one figure. Ends the process with 2 and a sentence where it is none. */
+static uint32_t set_of(const char *word)
+{
+    uint32_t named = (uint32_t)(word[0] - '0');
+    if (PAIR_BITS_OF(named) > 0 && word[1] == '\0')
+        return named;
+    fprintf(stderr, "%s, not '%s'\n", pair_number_text(PAIR_NO_SET), word);
+    exit(2);
+}
+
 int main(int argc, char **argv)
 {
+    if (argc > 3) {
+        fprintf(stderr, "usage: two_units [SET [FOLDER]]\n");
+        return 2;
+    }
+    if (argc > 1)
+        set = set_of(argv[1]);
     if (atexit(wipe_secret) != 0)
         fail("atexit");
     struct place places[2];
     start_units(places);
 
-    uint8_t file[PAIR_FILE_BYTES], code[PAIR_CODE_BYTES], evaluated[PAIR_CODE_BYTES];
+    static uint8_t file[PAIR_MAX_FILE_BYTES];
+    uint8_t code[PAIR_MAX_CODE_BYTES], evaluated[PAIR_MAX_CODE_BYTES];
+    size_t file_n = PAIR_FILE_BYTES_OF(set);
     struct shares shares;
     uint64_t start = 0;
     int equal = 1;
     draw_matrix(file);
-    draw(secret.source, sizeof secret.source);
+    draw(secret.source, ALL_SOURCE_BYTES_OF(set));
     for (int side = 0; side < 2; side++)
-        send_bytes(places[side].socket, file, sizeof file);
+        send_bytes(places[side].socket, file, file_n);
     for (uint32_t session = 1; session <= SESSIONS; session++) {
         hand_out_halves(places);
         start = deal(session, start, places);
         join(places, &shares, code);
         evaluate(file, evaluated);
-        equal = equal && memcmp(code, evaluated, sizeof code) == 0;
+        equal = equal && memcmp(code, evaluated, PAIR_CODE_BYTES_OF(set)) == 0;
     }
     for (int side = 0; side < 2; side++)
         expect_end(side, places[side].process);
 
-    if (argc > 1) {
-        save(argv[1], "matrix", file, sizeof file);
-        save(argv[1], "share0", shares.bytes[0], shares.n[0]);
-        save(argv[1], "share1", shares.bytes[1], shares.n[1]);
+    if (argc > 2) {
+        save(argv[2], "matrix", file, file_n);
+        save(argv[2], "share0", shares.bytes[0], shares.n[0]);
+        save(argv[2], "share1", shares.bytes[1], shares.n[1]);
     }
     puts(equal ? "equal" : "NOT EQUAL");
     return equal ? 0 : 1;

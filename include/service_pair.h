@@ -7,16 +7,22 @@
  * `memset`, and no other library. service_pair_text.h has a text for each number, a code's digits, and how to
  * wipe what was secret.
  *
+ * SETS. A pair is of one of three sizes, named by a number: set 1 has keys and labels of 256 bits and codes of 81
+ * digits, set 2 of 64 and 21, set 3 of 512 and 162. Dealer, units and counter of one pair name the same set. Frames
+ * carry none: one of another set is refused by its length. A unit keeps its set in its state, so a step names none,
+ * and pair_run is of set 1.
+ *
  * SLICES. A slice is a pointer and a length. The pointer is never NULL, also where the length is 0, and
  * the memory is the caller's: a function reads or writes it during the call only, and keeps no pointer.
  * The slices and the count or place of one call don't overlap, and nobody else writes them during it. An input
  * (`const`) has exactly the stated length, an output slice at least its length; a frame or a source may
  * have any. With another length a call is refused by number, so lengths need no check before it.
  *
- * NUMBERS. Every function returns a number of `enum pair_number`, and the lowest one whose condition
- * holds over all that the call reads. 0 is success: the stated bytes are written to the beginning of the
- * output slice, and its further bytes stay as they were. Any other number is a refusal: state and output
- * slice stay as they were, and a count or place is set to 0. The one exception is `pair_begin`.
+ * NUMBERS. Every function returns a number of `enum pair_number`: 14 before all others, where the set it names is
+ * none, and else the lowest one whose condition holds over all that the call reads. 0 is success: the stated bytes
+ * are written to the beginning of the output slice, and its further bytes stay as they were. Any other number is a
+ * refusal: state and output slice stay as they were, and a count or place is set to 0. The one exception is
+ * `pair_begin`.
  *
  * THREADS. There is no memory behind the functions: calls on different slices may run at the same time.
  * No function allocates, blocks, or calls back. How long a call takes is not spoken of by what is proved.
@@ -26,21 +32,21 @@
  * other unit, share frames to the counter. A tape is used for one session and never again, and so is each pair
  * of a source's bits: one source serves session after session if each draw begins where the one before ended.
  *
- * STACK. What each call uses at most, arguments and return address included, in KiB, rounded up:
+ * STACK. What each call uses at most in any set, arguments and return address included, in KiB, rounded up:
  *
- *     pair_matrix_check   0.4     pair_evaluate      0.9     pair_begin             0.1
- *     pair_matrix_read    0.4     pair_sample        0.4     pair_step, with deal   0.3
- *     pair_matrix_write   1.1     pair_deal          1.0     .. with open           1.2
- *     pair_join           0.3     pair_deal_source   1.3     .. with mask           1.1
- *                                                            pair_run               4.7
+ *     pair_matrix_check   0.5     pair_evaluate      1.1     pair_begin             0.2
+ *     pair_matrix_read    0.5     pair_sample        0.7     pair_step, with deal   0.5
+ *     pair_matrix_write   1.2     pair_deal          1.1     .. with open           1.5
+ *     pair_join           0.3     pair_deal_source   1.6     .. with mask           1.4
+ *                                                            pair_run               8.3
  *
  * A program that looks for memcpy at its first use (lazy binding) takes about 3.1 KiB more in the first call
- * that copies, at most 7.8 in all; linked with -z now it does not. Measured, not proved: the library was made
+ * that copies, at most 11.4 in all; linked with -z now it does not. Measured, not proved: the library was made
  * by the toolchain rattle-kit-5b, its callers by GCC 12 and Clang 14. tests/c/stack.c measures the table again.
  *
  * Calls do not clear the stack that they used, and copies of secrets stay there until something else is
- * written over them: after pair_run some of each half, after pair_deal_source pieces of the tape, after
- * pair_evaluate and the steps with an open and a mask frame 32 to 64 bytes. A host overwrites them with
+ * written over them: after pair_run some of each half, after pair_deal_source the tape, after
+ * pair_evaluate and the steps with an open and a mask frame up to 96 bytes. A host overwrites them with
  * pair_wipe_stack (service_pair_text.h), called from the function that made the calls and after them; then
  * none was found. What it does not reach are vector registers, which keep pieces until other code uses them,
  * and what a signal handler has put further down. */
@@ -50,11 +56,11 @@
 #include <stddef.h>
 #include <stdint.h>
 
-/* The version of this interface, as one number that compares: `#if PAIR_VERSION < PAIR_VERSION_OF(2, 1, 0)`.
+/* The version of this interface, as one number that compares: `#if PAIR_VERSION < PAIR_VERSION_OF(3, 1, 0)`.
  * MAJOR is raised where a host must be looked at again (a parameter, a length, a layout or the meaning of a
  * number is another), MINOR where a call, a number or a name was added, PATCH where neither is. The library
  * has no version of its own: header and library are of one build. */
-#define PAIR_VERSION_MAJOR 2
+#define PAIR_VERSION_MAJOR 3
 #define PAIR_VERSION_MINOR 0
 #define PAIR_VERSION_PATCH 0
 #define PAIR_VERSION_OF(major, minor, patch) ((major) * 10000 + (minor) * 100 + (patch))
@@ -74,30 +80,92 @@
 #define PAIR_NONNULL
 #endif
 
-/* Bit j of a string is bit j mod 8 (bit 0 lowest) of byte j div 8. Trits are 0, 1 or 2, in two planes,
- * low bits first, then high bits, each packed like bits; both bits of a trit set is unfit. */
-#define PAIR_KEY_BYTES 32          /* a key or a key half: 256 bits */
-#define PAIR_LABEL_BYTES 32        /* a label or a label half: 256 bits */
-#define PAIR_CODE_BYTES 22         /* a code: PAIR_CODE_DIGITS trits in two planes of 11 bytes */
-#define PAIR_CODE_DIGITS 81
-#define PAIR_ROWS_BYTES 5184       /* the public matrix: 81 rows of 64 bytes, each 256 trits */
-#define PAIR_FILE_BYTES 6144       /* a matrix file: 12 blocks of 512 bytes, each with a check */
-#define PAIR_TAPE_BYTES 256        /* a dealer's tape */
-#define PAIR_SOURCE_BYTES 384      /* random bytes that make a tape but for less than once in 2^400 times */
-#define PAIR_MORE_SOURCE_BYTES 288 /* more of them for each further tape: all are made but for less than once in
-                                      2^290 times. A tape takes 1,109 1/3 pairs on average, 277 1/3 bytes. */
-#define PAIR_DEALT_BYTES 332       /* both deal frames, unit 0's first */
-#define PAIR_STATE_BYTES 262       /* a unit's state: see pair_begin */
-#define PAIR_STEP_OUTPUT_BYTES 70  /* the least output slice of a step, at every stage */
-#define PAIR_INPUT_BYTES 6528      /* pair_run's input */
-#define PAIR_STACK_BYTES 8192      /* more than any call uses of the stack: see STACK */
+/* Sets are numbered from 1 to PAIR_SETS. A number that is none has 0 bits and 0 digits, and a call that names it gives
+ * 14. What ends in _OF takes a set, looks at it more than once, and is a constant where the set is one. */
+#define PAIR_SETS 3
+#define PAIR_BITS_OF(set) ((set) == 1 ? 256 : (set) == 2 ? 64 : (set) == 3 ? 512 : 0) /* n: of a key or a label */
+#define PAIR_DIGITS_OF(set) ((set) == 1 ? 81 : (set) == 2 ? 21 : (set) == 3 ? 162 : 0) /* t: of a code */
 
-/* Frames: kind, side, session (four bytes, lowest first), then the body. */
+/* Bit j of a string is bit j mod 8 (bit 0 lowest) of byte j div 8. Trits are 0, 1 or 2, in two planes,
+ * low bits first, then high bits, each packed like bits; both bits of a trit set is unfit. A plane of a code has
+ * t / 8 bytes, rounded up, and its unused bits are 0. Lengths follow from n and t:
+ *
+ *                                 set 1      2      3
+ *     key, label, or its half        32      8     64    n bits
+ *     code                           22      6     42    t trits
+ *     row of the public matrix       64     16    128    n trits
+ *     rows                         5184    336  20736    t rows
+ *     matrix file                  6144    512  27648    12, 1 and 54 blocks of 512 bytes, each with a check
+ *     tape                          256     64    512    3n/4 bytes, then n trits
+ *     deal frame                    166     46    326    kind 1, dealer to unit: the unit's deal
+ *     both deal frames              332     92    652    unit 0's first
+ *     open frame                     70     22    134    kind 2, unit to unit: key half and label half, each masked
+ *     mask frame                     38     14     70    kind 3, unit to unit: the masked inner vector's half
+ *     share frame                    28     12     48    kind 4, unit to counter: the code's share
+ *
+ * A frame is kind, side, session (four bytes, lowest first), then the body. */
 #define PAIR_HEADER_BYTES 6
-#define PAIR_DEAL_FRAME_BYTES 166  /* kind 1, dealer to unit: the unit's deal */
-#define PAIR_OPEN_FRAME_BYTES 70   /* kind 2, unit to unit: key half and label half, each masked */
-#define PAIR_MASK_FRAME_BYTES 38   /* kind 3, unit to unit: the masked inner vector's half */
-#define PAIR_SHARE_FRAME_BYTES 28  /* kind 4, unit to counter: the code's share */
+#define PAIR_KEY_BYTES_OF(set) (PAIR_BITS_OF(set) / 8)
+#define PAIR_LABEL_BYTES_OF(set) (PAIR_BITS_OF(set) / 8)
+#define PAIR_CODE_BYTES_OF(set) (2 * ((PAIR_DIGITS_OF(set) + 7) / 8))
+#define PAIR_ROW_BYTES_OF(set) (PAIR_BITS_OF(set) / 4)
+#define PAIR_ROWS_BYTES_OF(set) (PAIR_DIGITS_OF(set) * PAIR_ROW_BYTES_OF(set))
+#define PAIR_BLOCK_BYTES 512
+#define PAIR_BLOCKS_OF(set) ((set) == 1 ? 12 : (set) == 2 ? 1 : (set) == 3 ? 54 : 0) /* of 7, 28 and 3 rows at most */
+#define PAIR_FILE_BYTES_OF(set) (PAIR_BLOCKS_OF(set) * PAIR_BLOCK_BYTES)
+#define PAIR_TAPE_BYTES_OF(set) PAIR_BITS_OF(set)
+#define PAIR_DEAL_FRAME_BYTES_OF(set) (PAIR_HEADER_BYTES + 5 * PAIR_KEY_BYTES_OF(set))
+#define PAIR_OPEN_FRAME_BYTES_OF(set) (PAIR_HEADER_BYTES + 2 * PAIR_KEY_BYTES_OF(set))
+#define PAIR_MASK_FRAME_BYTES_OF(set) (PAIR_HEADER_BYTES + PAIR_KEY_BYTES_OF(set))
+#define PAIR_SHARE_FRAME_BYTES_OF(set) (PAIR_HEADER_BYTES + PAIR_CODE_BYTES_OF(set))
+#define PAIR_DEALT_BYTES_OF(set) (2 * PAIR_DEAL_FRAME_BYTES_OF(set))
+#define PAIR_STEP_OUTPUT_BYTES_OF(set) PAIR_OPEN_FRAME_BYTES_OF(set) /* the least output slice, at every stage */
+
+/* Random bytes that make a tape but for less than once in 2^400 times: 384, 168 and 688; and how many more for each
+ * further tape, so that all are made but for less than once in 2^290 times, whatever their number: 288, 72 and 576.
+ * A tape takes 13n/3 pairs on average, which is 277 1/3, 69 1/3 and 554 2/3 bytes. */
+#define PAIR_SOURCE_BYTES_OF(set) ((set) == 1 ? 384 : (set) == 2 ? 168 : (set) == 3 ? 688 : 0)
+#define PAIR_MORE_SOURCE_BYTES_OF(set) (PAIR_BITS_OF(set) / 8 * 9)
+
+/* Of set 1. */
+#define PAIR_CODE_DIGITS PAIR_DIGITS_OF(1)
+#define PAIR_KEY_BYTES PAIR_KEY_BYTES_OF(1)
+#define PAIR_LABEL_BYTES PAIR_LABEL_BYTES_OF(1)
+#define PAIR_CODE_BYTES PAIR_CODE_BYTES_OF(1)
+#define PAIR_ROWS_BYTES PAIR_ROWS_BYTES_OF(1)
+#define PAIR_FILE_BYTES PAIR_FILE_BYTES_OF(1)
+#define PAIR_TAPE_BYTES PAIR_TAPE_BYTES_OF(1)
+#define PAIR_DEAL_FRAME_BYTES PAIR_DEAL_FRAME_BYTES_OF(1)
+#define PAIR_OPEN_FRAME_BYTES PAIR_OPEN_FRAME_BYTES_OF(1)
+#define PAIR_MASK_FRAME_BYTES PAIR_MASK_FRAME_BYTES_OF(1)
+#define PAIR_SHARE_FRAME_BYTES PAIR_SHARE_FRAME_BYTES_OF(1)
+#define PAIR_DEALT_BYTES PAIR_DEALT_BYTES_OF(1)
+#define PAIR_STEP_OUTPUT_BYTES PAIR_STEP_OUTPUT_BYTES_OF(1)
+#define PAIR_SOURCE_BYTES PAIR_SOURCE_BYTES_OF(1)
+#define PAIR_MORE_SOURCE_BYTES PAIR_MORE_SOURCE_BYTES_OF(1)
+#define PAIR_INPUT_BYTES (2 * PAIR_KEY_BYTES + 2 * PAIR_LABEL_BYTES + PAIR_TAPE_BYTES + PAIR_FILE_BYTES) /* 6528 */
+
+/* Of a buffer that serves every set: set 3 has the most of each. */
+#define PAIR_MAX_DIGITS PAIR_DIGITS_OF(3)
+#define PAIR_MAX_KEY_BYTES PAIR_KEY_BYTES_OF(3)
+#define PAIR_MAX_LABEL_BYTES PAIR_LABEL_BYTES_OF(3)
+#define PAIR_MAX_CODE_BYTES PAIR_CODE_BYTES_OF(3)
+#define PAIR_MAX_ROW_BYTES PAIR_ROW_BYTES_OF(3)
+#define PAIR_MAX_ROWS_BYTES PAIR_ROWS_BYTES_OF(3)
+#define PAIR_MAX_FILE_BYTES PAIR_FILE_BYTES_OF(3)
+#define PAIR_MAX_TAPE_BYTES PAIR_TAPE_BYTES_OF(3)
+#define PAIR_MAX_DEAL_FRAME_BYTES PAIR_DEAL_FRAME_BYTES_OF(3)
+#define PAIR_MAX_OPEN_FRAME_BYTES PAIR_OPEN_FRAME_BYTES_OF(3)
+#define PAIR_MAX_MASK_FRAME_BYTES PAIR_MASK_FRAME_BYTES_OF(3)
+#define PAIR_MAX_SHARE_FRAME_BYTES PAIR_SHARE_FRAME_BYTES_OF(3)
+#define PAIR_MAX_DEALT_BYTES PAIR_DEALT_BYTES_OF(3)
+#define PAIR_MAX_STEP_OUTPUT_BYTES PAIR_STEP_OUTPUT_BYTES_OF(3)
+#define PAIR_MAX_SOURCE_BYTES PAIR_SOURCE_BYTES_OF(3)
+#define PAIR_MAX_MORE_SOURCE_BYTES PAIR_MORE_SOURCE_BYTES_OF(3)
+
+/* Of every set. */
+#define PAIR_STATE_BYTES 519   /* a unit's state: see pair_begin */
+#define PAIR_STACK_BYTES 12288 /* more than any call uses of the stack: see STACK */
 
 enum pair_kind { PAIR_DEAL = 1, PAIR_OPEN = 2, PAIR_MASK = 3, PAIR_SHARE = 4 };
 
@@ -122,40 +190,44 @@ enum pair_number {
     PAIR_OTHER_SIDE = 6,      /* side is not this unit's (deal), the other's (open, mask), or in join 0 then 1 */
     PAIR_NOT_WAITED_FOR = 7,  /* the kind is not the one waited for */
     PAIR_BLOCK_CHECK = 8,     /* a block's check differs */
-    PAIR_BLOCK_LAYOUT = 9,    /* a block's bytes 0 to 3 or its unused bytes differ from the layout */
+    PAIR_BLOCK_LAYOUT = 9,    /* a block's bytes 0 to 3, of which byte 3 is the set, or its unused bytes differ from
+                                 the layout */
     PAIR_UNFIT_TRIT = 10,     /* a trit with both bits set */
     PAIR_UNUSED_BIT = 11,     /* an unused bit set in a share frame */
     PAIR_ZERO_ROW = 12,       /* a row is all zero */
-    PAIR_SHORT_SOURCE = 13    /* a source has fewer than 768 pairs from the start, or fewer than 256 other than 3 after
+    PAIR_SHORT_SOURCE = 13,   /* a source has fewer than 3n pairs from the start, or fewer than n other than 3 after
                                  those, or 2^62 bytes or more, whose pairs 64 bits would not count */
+    PAIR_NO_SET = 14          /* set is not 1, 2 or 3: looked at before all other numbers */
 };
 
 #ifdef __cplusplus
 extern "C" {
 #endif
 
-/* Whether a matrix file is fit. Gives 0, 1, 8, 9, 10 or 12. */
-PAIR_NODISCARD PAIR_NONNULL
-uint32_t pair_matrix_check(const uint8_t *file, size_t file_n);
+/* A length that ends in _OF is that of the set which the call names, or which the state has. */
 
-/* Writes the file (PAIR_FILE_BYTES) of 81 rows (PAIR_ROWS_BYTES). Gives 0, 1, 10 or 12. */
+/* Whether a matrix file is fit. Gives 0, 1, 8, 9, 10, 12 or 14. */
 PAIR_NODISCARD PAIR_NONNULL
-uint32_t pair_matrix_write(const uint8_t *rows, size_t rows_n, uint8_t *out, size_t out_n);
+uint32_t pair_matrix_check(uint32_t set, const uint8_t *file, size_t file_n);
 
-/* Writes the 81 rows (PAIR_ROWS_BYTES) of a file (PAIR_FILE_BYTES). Gives 0, 1, 8, 9, 10 or 12. */
+/* Writes the file (PAIR_FILE_BYTES_OF) of t rows (PAIR_ROWS_BYTES_OF). Gives 0, 1, 10, 12 or 14. */
 PAIR_NODISCARD PAIR_NONNULL
-uint32_t pair_matrix_read(const uint8_t *file, size_t file_n, uint8_t *out, size_t out_n);
+uint32_t pair_matrix_write(uint32_t set, const uint8_t *rows, size_t rows_n, uint8_t *out, size_t out_n);
+
+/* Writes the t rows (PAIR_ROWS_BYTES_OF) of a file (PAIR_FILE_BYTES_OF). Gives 0, 1, 8, 9, 10, 12 or 14. */
+PAIR_NODISCARD PAIR_NONNULL
+uint32_t pair_matrix_read(uint32_t set, const uint8_t *file, size_t file_n, uint8_t *out, size_t out_n);
 
 /* The function in one place, for whoever has a whole key and a whole label: writes the code
- * (PAIR_CODE_BYTES). Gives 0, 1, 8, 9, 10 or 12. */
+ * (PAIR_CODE_BYTES_OF). Gives 0, 1, 8, 9, 10, 12 or 14. */
 PAIR_NODISCARD PAIR_NONNULL
-uint32_t pair_evaluate(const uint8_t *key, size_t key_n, const uint8_t *label, size_t label_n,
+uint32_t pair_evaluate(uint32_t set, const uint8_t *key, size_t key_n, const uint8_t *label, size_t label_n,
                        const uint8_t *file, size_t file_n, uint8_t *out, size_t out_n);
 
-/* Writes a tape (PAIR_TAPE_BYTES) made of a source's pairs from `start` on, and sets *next to the first pair
+/* Writes a tape (PAIR_TAPE_BYTES_OF) made of a source's pairs from `start` on, and sets *next to the first pair
  * that it did not read. Pair k is bits 2k and 2k + 1 of the source; start and *next are both counted from the
- * source's beginning. 768 pairs are copied; of those after them each 3 is skipped, and the others are trits,
- * until there are 256. Gives 0, 1 or 13.
+ * source's beginning. 3n pairs are copied (768, 192 or 1,536); of those after them each 3 is skipped, and the
+ * others are trits, until there are n (256, 64 or 512). Gives 0, 1, 13 or 14.
  *
  * The source is uniformly random, and start is 0 in a new one. The next draw is lent the same source and begins
  * at *next: it shares no pair with this one, and none between them is lost. A host takes *next over only where
@@ -163,51 +235,55 @@ uint32_t pair_evaluate(const uint8_t *key, size_t key_n, const uint8_t *label, s
  * source with more random bytes behind it serves, from the same start. Once a draw is done, the bytes before
  * byte *next div 4 are not needed any more and can be wiped. */
 PAIR_NODISCARD PAIR_NONNULL
-uint32_t pair_sample(uint64_t start, const uint8_t *source, size_t source_n, uint8_t *out, size_t out_n,
+uint32_t pair_sample(uint32_t set, uint64_t start, const uint8_t *source, size_t source_n, uint8_t *out, size_t out_n,
                      uint64_t *next);
 
-/* Writes unit 0's deal frame, then unit 1's (PAIR_DEALT_BYTES), of a session and a tape. Gives 0, 1 or 10. */
+/* Writes unit 0's deal frame, then unit 1's (PAIR_DEALT_BYTES_OF), of a session and a tape. Gives 0, 1, 10 or 14. */
 PAIR_NODISCARD PAIR_NONNULL
-uint32_t pair_deal(uint32_t session, const uint8_t *tape, size_t tape_n, uint8_t *out, size_t out_n);
+uint32_t pair_deal(uint32_t set, uint32_t session, const uint8_t *tape, size_t tape_n, uint8_t *out, size_t out_n);
 
-/* The same of the tape that pair_sample makes of this source from `start` on, with its *next. Gives 0, 1 or 13. */
+/* The same of the tape that pair_sample makes of this source from `start` on, with its *next. Gives 0, 1, 13 or 14. */
 PAIR_NODISCARD PAIR_NONNULL
-uint32_t pair_deal_source(uint32_t session, uint64_t start, const uint8_t *source, size_t source_n, uint8_t *out,
-                          size_t out_n, uint64_t *next);
+uint32_t pair_deal_source(uint32_t set, uint32_t session, uint64_t start, const uint8_t *source, size_t source_n,
+                          uint8_t *out, size_t out_n, uint64_t *next);
 
-/* Begins a unit of side 0 or 1 with its halves, and writes its state (exactly PAIR_STATE_BYTES): it waits
- * for its deal frame. Gives 0, 1 or 2. A refusal writes the idle state, all zero, which accepts no frame,
- * so that an old state does not go on under a host that overlooks the number; a host that wants to keep
- * one lends another slice. Only a state slice of another length (1) is left as it was.
+/* Begins a unit of side 0 or 1 with its halves, and writes its state (exactly PAIR_STATE_BYTES, in every set): it
+ * waits for its deal frame. Gives 0, 1, 2 or 14. A refusal writes the idle state, whatever set was named: all zero
+ * but for its set, which is 1. It accepts no frame, so that an old state does not go on under a host that overlooks
+ * the number; a host that wants to keep one lends another slice. Only a state slice of another length (1, or 14 if
+ * the set is none) is left as it was.
  *
- * A state is stage 1 byte (enum pair_stage), side 1, session 4 lowest first, key half 32, label half 32, the
- * deal 160, the unit's own mask 32. Nobody else writes it between two calls, and no copy is stepped again:
- * two answers from one state tell more than the protocol does. */
+ * A state is stage 1 byte (enum pair_stage), side 1, session 4 lowest first, set 1, and then fields with room for
+ * every set: key half 64, label half 64, of the deal 64, 64, 64 and 128, the unit's own mask 64. A field has its
+ * set's bytes in front, and zeros after them. Done, a unit keeps stage, side, session and set, and all else is zero.
+ * Nobody else writes a state between two calls, and no copy is stepped again: two answers from one state tell more
+ * than the protocol does. Bytes that no beginning made count as set 1 unless their set is 2 or 3, and what stands
+ * after a field's bytes is not read. */
 PAIR_NODISCARD PAIR_NONNULL
-uint32_t pair_begin(uint32_t side, uint32_t session, const uint8_t *key_half, size_t key_half_n,
+uint32_t pair_begin(uint32_t set, uint32_t side, uint32_t session, const uint8_t *key_half, size_t key_half_n,
                     const uint8_t *label_half, size_t label_half_n, uint8_t *state, size_t state_n);
 
-/* Hands a unit one frame. Accepted, the frame to send stands in out (at least PAIR_STEP_OUTPUT_BYTES),
+/* Hands a unit one frame. Accepted, the frame to send stands in out (at least PAIR_STEP_OUTPUT_BYTES_OF),
  * *written is its length, and the state is the next one:
  *
- *     takes            from               writes           to
- *     deal (166)       the dealer         open (70)        the other unit
- *     open (70)        the other unit     mask (38)        the other unit
- *     mask (38)        the other unit     share (28)       the counter
+ *     takes    from               writes    to
+ *     deal     the dealer         open      the other unit
+ *     open     the other unit     mask      the other unit
+ *     mask     the other unit     share     the counter
  *
  * After three accepted frames the unit is done, and its state has no secret left. A refused frame leaves
- * the state as it was, so a host may drop it and go on. The matrix file (PAIR_FILE_BYTES) is read only if
+ * the state as it was, so a host may drop it and go on. The matrix file (PAIR_FILE_BYTES_OF) is read only if
  * the frame's first byte is 3; for other frames it may be empty. Gives 0, 1 or 3 to 12 but not 11. */
 PAIR_NODISCARD PAIR_NONNULL
 uint32_t pair_step(uint8_t *state, size_t state_n, const uint8_t *frame, size_t frame_n, const uint8_t *file,
                    size_t file_n, uint8_t *out, size_t out_n, uint64_t *written);
 
-/* Adds side 0's and side 1's share frame to the code (PAIR_CODE_BYTES). Gives 0, 1, 3 to 6, 10 or 11. */
+/* Adds side 0's and side 1's share frame to the code (PAIR_CODE_BYTES_OF). Gives 0, 1, 3 to 6, 10, 11 or 14. */
 PAIR_NODISCARD PAIR_NONNULL
-uint32_t pair_join(const uint8_t *share0, size_t share0_n, const uint8_t *share1, size_t share1_n, uint8_t *out,
-                   size_t out_n);
+uint32_t pair_join(uint32_t set, const uint8_t *share0, size_t share0_n, const uint8_t *share1, size_t share1_n,
+                   uint8_t *out, size_t out_n);
 
-/* A whole run in one place, session 1, for trials: of two key halves, two label halves, tape and matrix
+/* A whole run of set 1 in one place, session 1, for trials: of two key halves, two label halves, tape and matrix
  * file (PAIR_INPUT_BYTES) it writes the code (PAIR_CODE_BYTES). Gives 0, 1, 8, 9, 10 or 12. */
 PAIR_NODISCARD PAIR_NONNULL
 uint32_t pair_run(const uint8_t *input, size_t input_n, uint8_t *out, size_t out_n);

@@ -37,22 +37,26 @@ static inline const char *pair_number_text(uint32_t number)
         return "a row of the matrix is all zero";
     case PAIR_SHORT_SOURCE:
         return "the source has too few usable pairs of bits from the start on";
+    case PAIR_NO_SET:
+        return "a set is 1, 2 or 3";
     default:
         return "no number of the table";
     }
 }
 
-/* Writes the digits of a code, PAIR_CODE_DIGITS characters of 0, 1 and 2, and a zero byte. Digit i is the
- * low plane's bit i plus twice the high plane's; a 3 comes only of bytes that no call has written. */
+/* Writes the digits of a code of this set, PAIR_DIGITS_OF(set) characters of 0, 1 and 2, and a zero byte; of a
+ * number that is no set the zero byte alone. Digit i is the low plane's bit i plus twice the high plane's; a 3
+ * comes only of bytes that no call has written. */
 PAIR_NONNULL
-static inline void pair_code_digits(const uint8_t code[PAIR_CODE_BYTES], char digits[PAIR_CODE_DIGITS + 1])
+static inline void pair_code_digits(uint32_t set, const uint8_t *code, char *digits)
 {
-    for (int i = 0; i < PAIR_CODE_DIGITS; i++) {
+    const uint8_t *high_plane = code + PAIR_CODE_BYTES_OF(set) / 2;
+    for (int i = 0; i < PAIR_DIGITS_OF(set); i++) {
         int low = code[i / 8] >> i % 8 & 1;
-        int high = code[PAIR_CODE_BYTES / 2 + i / 8] >> i % 8 & 1;
+        int high = high_plane[i / 8] >> i % 8 & 1;
         digits[i] = "0123"[low + 2 * high];
     }
-    digits[PAIR_CODE_DIGITS] = '\0';
+    digits[PAIR_DIGITS_OF(set)] = '\0';
 }
 
 /* Overwrites n bytes with zeros. A compiler may drop a memset of what is not read any more; it may not drop

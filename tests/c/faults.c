@@ -2,68 +2,121 @@
  * check that this fails first; and it must have wiped all that it held. */
 #include "service_pair.h"
 
+#include <stdbool.h>
 #include <stdio.h>
 #include <stdlib.h>
 #include <string.h>
 
+/* Where a state has its set. */
+enum { STATE_SET = PAIR_HEADER_BYTES };
+
 enum fault {
     NO_FAULT,
+    NO_SET_IS_SET_1,
+    NO_SET_AFTER_LENGTHS,
+    NO_SET_WRITES,
+    NO_SET_LEAVES_PLACE,
+    BEGIN_NO_SET_AFTER_LENGTHS,
+    BEGIN_REFUSED_WRITES_OTHER_LENGTH,
+    BEGIN_REFUSED_KEEPS_STATE,
+    BEGIN_REFUSED_WRITES_ZEROS,
+    BEGIN_REFUSED_KEEPS_SET,
     WRITE_REFUSES,
     CHECK_REFUSES,
+    CHECK_TAKES_OTHER_LENGTH,
+    CHECK_PASSES_OVER_BYTE_3,
+    READ_PASSES_OVER_BYTE_3,
     DEAL_REFUSES,
     BEGIN_REFUSES,
     BEGIN_STAYS_IDLE,
+    BEGIN_IN_SET_1,
     STEP_TAKES_DAMAGED,
     STEP_TAKES_CUT,
     STEP_TAKES_CUT_HEADER,
+    STEP_TAKES_OTHER_SET,
+    STEP_TAKES_CUT_STATE,
+    STEP_TAKES_LITTLE_ROOM,
+    STEP_LEAST_OUTPUT_OF_SET_1,
+    STEP_PASSES_OVER_BYTE_3,
     STEP_REFUSED_CHANGES_STATE,
     STEP_REFUSED_WRITES,
     STEP_REFUSED_COUNTS,
     STEP_REFUSES,
     STEP_COUNTS_MORE,
+    STEP_WRITES_MORE,
     STEP_STAYS,
+    STEP_DONE_IN_SET_1,
     STEP_KEEPS_HALF,
     STEP_TAKES_WHEN_DONE,
     STEP_OTHER_SHARE,
     JOIN_TAKES_DAMAGED,
     JOIN_TAKES_CUT,
+    JOIN_TAKES_OTHER_SET,
     JOIN_REFUSED_WRITES,
     JOIN_REFUSES,
     JOIN_OTHER_CODE,
+    JOIN_WRITES_MORE,
     RUN_REFUSES,
     RUN_OTHER_CODE,
+    EVALUATE_PASSES_OVER_BYTE_3,
     EVALUATE_REFUSES,
     EVALUATE_OTHER_CODE,
+    EVALUATE_WRITES_MORE,
     FAULTS
 };
 
 static const char *const first_failed[FAULTS] = {
+    [NO_SET_IS_SET_1] = "a number that is no set is refused before all else",
+    [NO_SET_AFTER_LENGTHS] = "a number that is no set is refused before all else",
+    [NO_SET_WRITES] = "a call without a set writes nothing",
+    [NO_SET_LEAVES_PLACE] = "a call without a set sets a place to 0",
+    [BEGIN_NO_SET_AFTER_LENGTHS] = "a beginning is refused by its number",
+    [BEGIN_REFUSED_WRITES_OTHER_LENGTH] = "a state slice of another length is left as it was",
+    [BEGIN_REFUSED_KEEPS_STATE] = "a refused beginning writes the idle state",
+    [BEGIN_REFUSED_WRITES_ZEROS] = "a refused beginning writes the idle state",
+    [BEGIN_REFUSED_KEEPS_SET] = "a refused beginning writes the idle state",
     [WRITE_REFUSES] = "the matrix file is written",
     [CHECK_REFUSES] = "the matrix file is fit",
+    [CHECK_TAKES_OTHER_LENGTH] = "a file of another set is refused by its length",
+    [CHECK_PASSES_OVER_BYTE_3] = "a block of another set is refused by its number",
+    [READ_PASSES_OVER_BYTE_3] = "a block of another set is refused by its number",
     [DEAL_REFUSES] = "the dealer deals",
     [BEGIN_REFUSES] = "a unit begins",
     [BEGIN_STAYS_IDLE] = "a unit that has begun waits for its deal",
+    [BEGIN_IN_SET_1] = "a unit that has begun has its set",
     [STEP_TAKES_DAMAGED] = "a frame with a damaged header is refused by its number",
     [STEP_TAKES_CUT] = "a cut frame is refused by its number",
     [STEP_TAKES_CUT_HEADER] = "a cut header is refused by its number",
+    [STEP_TAKES_OTHER_SET] = "a frame of another set is refused by its length",
+    [STEP_TAKES_CUT_STATE] = "a step wants a whole state",
+    [STEP_TAKES_LITTLE_ROOM] = "a step wants its set's room for an answer",
+    /* in set 2, where every step would be refused with 1 */
+    [STEP_LEAST_OUTPUT_OF_SET_1] = "a frame with a damaged header is refused by its number",
+    [STEP_PASSES_OVER_BYTE_3] = "a step with a block of another set is refused by its number",
     [STEP_REFUSED_CHANGES_STATE] = "a refused frame leaves the state as it was",
     [STEP_REFUSED_WRITES] = "a refused frame writes nothing",
     [STEP_REFUSED_COUNTS] = "a refused frame writes nothing",
     [STEP_REFUSES] = "a unit takes the frame that it waits for",
     [STEP_COUNTS_MORE] = "a unit's frame has its kind's length",
+    [STEP_WRITES_MORE] = "a unit writes its frame and nothing after it",
     [STEP_STAYS] = "a unit goes on to its next stage",
+    [STEP_DONE_IN_SET_1] = "a done unit keeps its side, session and set",
     [STEP_KEEPS_HALF] = "a done unit keeps no secret",
     [STEP_TAKES_WHEN_DONE] = "a done unit takes no frame",
-    [STEP_OTHER_SHARE] = "two units give the sample's code",
+    [STEP_OTHER_SHARE] = "two units give the sample's code and no byte more",
     [JOIN_TAKES_DAMAGED] = "a share with a damaged header is refused by its number",
     [JOIN_TAKES_CUT] = "a cut share is refused by its number",
+    [JOIN_TAKES_OTHER_SET] = "a share of another set is refused by its length",
     [JOIN_REFUSED_WRITES] = "a refused share writes nothing",
     [JOIN_REFUSES] = "the counter joins",
-    [JOIN_OTHER_CODE] = "two units give the sample's code",
+    [JOIN_OTHER_CODE] = "two units give the sample's code and no byte more",
+    [JOIN_WRITES_MORE] = "two units give the sample's code and no byte more",
     [RUN_REFUSES] = "a whole run is accepted",
-    [RUN_OTHER_CODE] = "a whole run gives the sample's code",
+    [RUN_OTHER_CODE] = "a whole run gives the sample's code and no byte more",
+    [EVALUATE_PASSES_OVER_BYTE_3] = "a block of another set is refused by its number",
     [EVALUATE_REFUSES] = "the evaluator evaluates",
-    [EVALUATE_OTHER_CODE] = "the evaluator gives the sample's code",
+    [EVALUATE_OTHER_CODE] = "the evaluator gives the sample's code and no byte more",
+    [EVALUATE_WRITES_MORE] = "the evaluator gives the sample's code and no byte more",
 };
 
 static enum fault fault;
@@ -81,62 +134,148 @@ static uint32_t refusing(enum fault which, uint32_t number)
     return fault == which && number == PAIR_OK ? PAIR_WRONG_LENGTH : number;
 }
 
-static uint32_t faulty_write(const uint8_t *rows, size_t rows_n, uint8_t *out, size_t out_n)
+/* The number that a call answers where it names no set, and what it then writes. */
+static uint32_t without_set(uint8_t *out, uint32_t number)
 {
-    return refusing(WRITE_REFUSES, pair_matrix_write(rows, rows_n, out, out_n));
+    if (number != PAIR_NO_SET)
+        return number;
+    out[0] ^= fault == NO_SET_WRITES;
+    return fault == NO_SET_AFTER_LENGTHS ? PAIR_WRONG_LENGTH : number;
 }
 
-static uint32_t faulty_check(const uint8_t *file, size_t file_n)
+/* The set that a call takes, which should be the one that it names. */
+static uint32_t set_taken(uint32_t set)
 {
-    return refusing(CHECK_REFUSES, pair_matrix_check(file, file_n));
+    return fault == NO_SET_IS_SET_1 && PAIR_BITS_OF(set) == 0 ? 1 : set;
 }
 
-static uint32_t faulty_deal(uint32_t session, const uint8_t *tape, size_t tape_n, uint8_t *out, size_t out_n)
+static uint32_t faulty_write(uint32_t set, const uint8_t *rows, size_t rows_n, uint8_t *out, size_t out_n)
 {
-    return refusing(DEAL_REFUSES, pair_deal(session, tape, tape_n, out, out_n));
+    return refusing(WRITE_REFUSES, without_set(out, pair_matrix_write(set_taken(set), rows, rows_n, out, out_n)));
 }
 
-static uint32_t faulty_begin(uint32_t side, uint32_t session, const uint8_t *key_half, size_t key_half_n,
-                             const uint8_t *label_half, size_t label_half_n, uint8_t *state, size_t state_n)
+static uint32_t faulty_check(uint32_t set, const uint8_t *file, size_t file_n)
 {
-    uint32_t number = pair_begin(side, session, key_half, key_half_n, label_half, label_half_n, state, state_n);
+    uint32_t number = pair_matrix_check(set, file, file_n);
+    number = accepting(CHECK_TAKES_OTHER_LENGTH, PAIR_WRONG_LENGTH, number);
+    return refusing(CHECK_REFUSES, accepting(CHECK_PASSES_OVER_BYTE_3, PAIR_BLOCK_LAYOUT, number));
+}
+
+static uint32_t faulty_read(uint32_t set, const uint8_t *file, size_t file_n, uint8_t *out, size_t out_n)
+{
+    return accepting(READ_PASSES_OVER_BYTE_3, PAIR_BLOCK_LAYOUT, pair_matrix_read(set, file, file_n, out, out_n));
+}
+
+static uint32_t faulty_sample(uint32_t set, uint64_t start, const uint8_t *source, size_t source_n, uint8_t *out,
+                              size_t out_n, uint64_t *next)
+{
+    uint64_t before = *next;
+    uint32_t number = pair_sample(set, start, source, source_n, out, out_n, next);
+    if (number == PAIR_NO_SET && fault == NO_SET_LEAVES_PLACE)
+        *next = before;
+    return number;
+}
+
+static uint32_t faulty_deal(uint32_t set, uint32_t session, const uint8_t *tape, size_t tape_n, uint8_t *out,
+                            size_t out_n)
+{
+    return refusing(DEAL_REFUSES, pair_deal(set, session, tape, tape_n, out, out_n));
+}
+
+/* What a refused beginning has left in its state slice. */
+static void spoil_refused(uint32_t set, uint8_t *state, size_t state_n, const uint8_t before[PAIR_STATE_BYTES])
+{
+    if (state_n != PAIR_STATE_BYTES) {
+        state[0] ^= fault == BEGIN_REFUSED_WRITES_OTHER_LENGTH;
+        return;
+    }
+    if (fault == BEGIN_REFUSED_KEEPS_STATE)
+        memcpy(state, before, PAIR_STATE_BYTES);
+    if (fault == BEGIN_REFUSED_WRITES_ZEROS)
+        state[STATE_SET] = 0;
+    if (fault == BEGIN_REFUSED_KEEPS_SET && PAIR_BITS_OF(set) > 0)
+        state[STATE_SET] = (uint8_t)set;
+}
+
+static uint32_t faulty_begin(uint32_t set, uint32_t side, uint32_t session, const uint8_t *key_half,
+                             size_t key_half_n, const uint8_t *label_half, size_t label_half_n, uint8_t *state,
+                             size_t state_n)
+{
+    uint8_t before[PAIR_STATE_BYTES];
+    memcpy(before, state, state_n < sizeof before ? state_n : sizeof before);
+    uint32_t number = pair_begin(set, side, session, key_half, key_half_n, label_half, label_half_n, state, state_n);
+    if (number != PAIR_OK) {
+        spoil_refused(set, state, state_n, before);
+        return number == PAIR_NO_SET && fault == BEGIN_NO_SET_AFTER_LENGTHS ? PAIR_WRONG_LENGTH : number;
+    }
     if (fault == BEGIN_STAYS_IDLE)
         state[0] = PAIR_STAGE_IDLE;
+    if (fault == BEGIN_IN_SET_1)
+        state[STATE_SET] = 1;
     return refusing(BEGIN_REFUSES, number);
+}
+
+/* What an accepted step has written. */
+static void spoil_accepted(uint8_t *state, uint8_t *out, uint64_t *written)
+{
+    bool done = state[0] == PAIR_STAGE_DONE;
+    /* of side 0 alone: the same in both shares could cancel out */
+    out[PAIR_HEADER_BYTES] ^= fault == STEP_OTHER_SHARE && done && state[1] == 0;
+    out[*written] ^= fault == STEP_WRITES_MORE;
+    *written += fault == STEP_COUNTS_MORE;
+    state[0] -= fault == STEP_STAYS;
+    state[STATE_SET + 1] |= fault == STEP_KEEPS_HALF;
+    if (fault == STEP_DONE_IN_SET_1 && done)
+        state[STATE_SET] = 1;
+}
+
+static bool is_frame_of_other_set(const uint8_t *state, size_t frame_n)
+{
+    bool found = false;
+    for (uint32_t set = 1; set <= PAIR_SETS; set++)
+        found = found || (set != state[STATE_SET] && frame_n == (size_t)PAIR_DEAL_FRAME_BYTES_OF(set));
+    return found;
 }
 
 static uint32_t faulty_step(uint8_t *state, size_t state_n, const uint8_t *frame, size_t frame_n, const uint8_t *file,
                             size_t file_n, uint8_t *out, size_t out_n, uint64_t *written)
 {
+    if (fault == STEP_LEAST_OUTPUT_OF_SET_1 && out_n < PAIR_STEP_OUTPUT_BYTES) {
+        *written = 0;
+        return PAIR_WRONG_LENGTH;
+    }
     uint32_t number = pair_step(state, state_n, frame, frame_n, file, file_n, out, out_n, written);
     if (number == PAIR_OK) {
-        *written += fault == STEP_COUNTS_MORE;
-        state[0] -= fault == STEP_STAYS;
-        state[PAIR_HEADER_BYTES] |= fault == STEP_KEEPS_HALF;
-        /* of side 0 alone: the same in both shares could cancel out */
-        out[PAIR_HEADER_BYTES] ^= fault == STEP_OTHER_SHARE && state[0] == PAIR_STAGE_DONE && state[1] == 0;
+        spoil_accepted(state, out, written);
         return refusing(STEP_REFUSES, number);
     }
-    state[PAIR_HEADER_BYTES] ^= fault == STEP_REFUSED_CHANGES_STATE;
-    out[PAIR_STEP_OUTPUT_BYTES - 1] ^= fault == STEP_REFUSED_WRITES;
+    state[STATE_SET + 1] ^= fault == STEP_REFUSED_CHANGES_STATE;
+    out[out_n - 1] ^= fault == STEP_REFUSED_WRITES;
     *written += fault == STEP_REFUSED_COUNTS;
     if (frame_n < PAIR_HEADER_BYTES)
         return accepting(STEP_TAKES_CUT_HEADER, PAIR_NO_KIND, number);
+    if (is_frame_of_other_set(state, frame_n))
+        return accepting(STEP_TAKES_OTHER_SET, PAIR_FRAME_LENGTH, number);
+    number = accepting(state_n < PAIR_STATE_BYTES ? STEP_TAKES_CUT_STATE : STEP_TAKES_LITTLE_ROOM, PAIR_WRONG_LENGTH,
+                       number);
+    number = accepting(STEP_PASSES_OVER_BYTE_3, PAIR_BLOCK_LAYOUT, number);
     number = accepting(STEP_TAKES_DAMAGED, PAIR_OTHER_SESSION, number);
     number = accepting(STEP_TAKES_WHEN_DONE, PAIR_NOT_WAITED_FOR, number);
     return accepting(STEP_TAKES_CUT, PAIR_FRAME_LENGTH, number);
 }
 
-static uint32_t faulty_join(const uint8_t *share0, size_t share0_n, const uint8_t *share1, size_t share1_n,
-                            uint8_t *out, size_t out_n)
+static uint32_t faulty_join(uint32_t set, const uint8_t *share0, size_t share0_n, const uint8_t *share1,
+                            size_t share1_n, uint8_t *out, size_t out_n)
 {
-    uint32_t number = pair_join(share0, share0_n, share1, share1_n, out, out_n);
-    if (number == PAIR_OK)
+    uint32_t number = pair_join(set, share0, share0_n, share1, share1_n, out, out_n);
+    if (number == PAIR_OK) {
         out[0] ^= fault == JOIN_OTHER_CODE;
-    else
-        out[0] ^= fault == JOIN_REFUSED_WRITES && number == PAIR_FRAME_LENGTH;
+        out[PAIR_CODE_BYTES_OF(set)] ^= fault == JOIN_WRITES_MORE;
+    } else if (fault == JOIN_REFUSED_WRITES && number == PAIR_FRAME_LENGTH)
+        out[0] = 0;
     number = accepting(JOIN_TAKES_DAMAGED, PAIR_OTHER_SIDE, number);
-    return refusing(JOIN_REFUSES, accepting(JOIN_TAKES_CUT, PAIR_FRAME_LENGTH, number));
+    number = accepting(share0_n == share1_n ? JOIN_TAKES_OTHER_SET : JOIN_TAKES_CUT, PAIR_FRAME_LENGTH, number);
+    return refusing(JOIN_REFUSES, number);
 }
 
 static uint32_t faulty_run(const uint8_t *input, size_t input_n, uint8_t *out, size_t out_n)
@@ -146,18 +285,23 @@ static uint32_t faulty_run(const uint8_t *input, size_t input_n, uint8_t *out, s
     return refusing(RUN_REFUSES, number);
 }
 
-static uint32_t faulty_evaluate(const uint8_t *key, size_t key_n, const uint8_t *label, size_t label_n,
+static uint32_t faulty_evaluate(uint32_t set, const uint8_t *key, size_t key_n, const uint8_t *label, size_t label_n,
                                 const uint8_t *file, size_t file_n, uint8_t *out, size_t out_n)
 {
-    uint32_t number = pair_evaluate(key, key_n, label, label_n, file, file_n, out, out_n);
-    out[PAIR_CODE_BYTES - 1] ^= fault == EVALUATE_OTHER_CODE;
-    return refusing(EVALUATE_REFUSES, number);
+    uint32_t number = pair_evaluate(set, key, key_n, label, label_n, file, file_n, out, out_n);
+    if (number == PAIR_OK) {
+        out[PAIR_CODE_BYTES_OF(set) - 1] ^= fault == EVALUATE_OTHER_CODE;
+        out[PAIR_CODE_BYTES_OF(set)] ^= fault == EVALUATE_WRITES_MORE;
+    }
+    return refusing(EVALUATE_REFUSES, accepting(EVALUATE_PASSES_OVER_BYTE_3, PAIR_BLOCK_LAYOUT, number));
 }
 
 /* ---- the example, over them */
 
 #define pair_matrix_write faulty_write
 #define pair_matrix_check faulty_check
+#define pair_matrix_read faulty_read
+#define pair_sample faulty_sample
 #define pair_deal faulty_deal
 #define pair_begin faulty_begin
 #define pair_step faulty_step

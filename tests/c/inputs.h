@@ -1,5 +1,5 @@
-/* Inputs of the tests in C: numbers that look random, the same in every run (xorshift), fit trits, and what
- * pair_run takes. */
+/* Inputs of the tests in C: numbers that look random, the same in every run (xorshift), fit trits, a block's check,
+ * how long frames are, and what pair_run takes. */
 #ifndef TEST_INPUTS_H
 #define TEST_INPUTS_H
 
@@ -32,14 +32,36 @@ static inline void make_fit(uint8_t *vectors, size_t n, size_t plane)
         vectors[i] &= i % (2 * plane) < plane ? 0xff : (uint8_t)~vectors[i - plane];
 }
 
-static inline void make_input(uint8_t input[PAIR_INPUT_BYTES], uint8_t keys[2][PAIR_KEY_BYTES],
-                              uint8_t labels[2][PAIR_LABEL_BYTES], const uint8_t tape[PAIR_TAPE_BYTES],
-                              const uint8_t file[PAIR_FILE_BYTES])
+/* A fit block's last two bytes: two sums modulo 255. */
+static inline void make_block_check(uint8_t block[PAIR_BLOCK_BYTES])
 {
-    memcpy(input, keys, 2 * PAIR_KEY_BYTES);
-    input += 2 * PAIR_KEY_BYTES;
-    memcpy(input, labels, 2 * PAIR_LABEL_BYTES);
-    input += 2 * PAIR_LABEL_BYTES;
+    unsigned first = 0, second = 0;
+    for (int i = 0; i < PAIR_BLOCK_BYTES - 2; i++) {
+        first = (first + block[i]) % 255;
+        second = (second + first) % 255;
+    }
+    block[PAIR_BLOCK_BYTES - 2] = (uint8_t)first;
+    block[PAIR_BLOCK_BYTES - 1] = (uint8_t)second;
+}
+
+/* The length of the frame that step 0, 1 or 2 takes, and after them of the share. */
+static inline size_t frame_bytes(uint32_t set, int step)
+{
+    const int bytes[] = {PAIR_DEAL_FRAME_BYTES_OF(set), PAIR_OPEN_FRAME_BYTES_OF(set), PAIR_MASK_FRAME_BYTES_OF(set),
+                         PAIR_SHARE_FRAME_BYTES_OF(set)};
+    return (size_t)bytes[step];
+}
+
+/* Of set 1. The arrays have room for every set. */
+static inline void make_input(uint8_t input[PAIR_INPUT_BYTES], uint8_t keys[2][PAIR_MAX_KEY_BYTES],
+                              uint8_t labels[2][PAIR_MAX_LABEL_BYTES], const uint8_t tape[PAIR_MAX_TAPE_BYTES],
+                              const uint8_t file[PAIR_MAX_FILE_BYTES])
+{
+    for (int side = 0; side < 2; side++) {
+        memcpy(input + side * PAIR_KEY_BYTES, keys[side], PAIR_KEY_BYTES);
+        memcpy(input + 2 * PAIR_KEY_BYTES + side * PAIR_LABEL_BYTES, labels[side], PAIR_LABEL_BYTES);
+    }
+    input += 2 * PAIR_KEY_BYTES + 2 * PAIR_LABEL_BYTES;
     memcpy(input, tape, PAIR_TAPE_BYTES);
     memcpy(input + PAIR_TAPE_BYTES, file, PAIR_FILE_BYTES);
 }

@@ -7,10 +7,10 @@ uint32_t misuse(const uint8_t *file);
 uint32_t misuse(const uint8_t *file)
 {
 #if defined(IGNORED)
-    pair_matrix_check(file, PAIR_FILE_BYTES);
+    pair_matrix_check(1, file, PAIR_FILE_BYTES);
 #elif defined(NO_POINTER)
     file = NULL;
-    return pair_matrix_check(NULL, 0);
+    return pair_matrix_check(1, NULL, 0);
 #endif
-    return pair_matrix_check(file, PAIR_FILE_BYTES);
+    return pair_matrix_check(1, file, PAIR_FILE_BYTES);
 }

@@ -1,5 +1,5 @@
 /* The functions of linear algebra on secrets: at the sizes of all three sets, which calls of the interface
- * reach or will reach, and at every length up to LONGEST, so that no loop and no straight way is left out.
+ * reach, and at every length up to LONGEST, so that no loop and no straight way is left out.
  * `row_is_zero` is not tried: rows are public, and it leaves at the first byte that is not 0. */
 #include "inputs.h"
 #include "linear.h"
@@ -8,16 +8,9 @@
 #include <stdio.h>
 #include <string.h>
 
-enum { WORD = 8, LONGEST = 140, FEW_ROWS = 9, MOST_ROWS = 162 };
+enum { WORD = 8, LONGEST = 140, FEW_ROWS = 9 };
 
-/* Bytes of a key, of a vector, and of a code of so many digits. */
-struct set {
-    size_t key, vector, code, digits;
-};
-
-static const struct set sets[] = {{8, 16, 6, 21}, {32, 64, 22, 81}, {64, 128, 42, 162}};
-
-static uint8_t first[LONGEST + 1], second[LONGEST + 1], out[LONGEST + 1], rows[MOST_ROWS * LONGEST];
+static uint8_t first[LONGEST + 1], second[LONGEST + 1], out[LONGEST + 1], rows[PAIR_MAX_DIGITS * LONGEST];
 
 static const char *at_length(const char *name, size_t n)
 {
@@ -115,21 +108,23 @@ static void try_rows(size_t n, size_t t, bool secret_rows)
     show(rows, rows_n);
 }
 
-static void try_set(const struct set *set)
+static void try_set(uint32_t set)
 {
-    try_sums(set->key, set->key);
-    try_sums(set->vector, set->vector);
-    try_sums(set->code, set->code);
-    try_truths(set->vector, 4 * set->vector);
-    try_truths(set->code, set->digits);
-    try_rows(set->vector, set->digits, false);
-    try_rows(set->vector, set->digits, true);
+    size_t key = PAIR_KEY_BYTES_OF(set), row = PAIR_ROW_BYTES_OF(set), code = PAIR_CODE_BYTES_OF(set);
+    size_t digits = PAIR_DIGITS_OF(set);
+    try_sums(key, key);
+    try_sums(row, row);
+    try_sums(code, code);
+    try_truths(row, PAIR_BITS_OF(set));
+    try_truths(code, digits);
+    try_rows(row, digits, false);
+    try_rows(row, digits, true);
 }
 
 void try_sizes(void)
 {
-    for (size_t i = 0; i < sizeof sets / sizeof sets[0]; i++)
-        try_set(&sets[i]);
+    for (uint32_t set = 1; set <= PAIR_SETS; set++)
+        try_set(set);
     for (size_t n = 0; n <= LONGEST; n++) {
         try_sums(n, n);
         if (n > 0) {

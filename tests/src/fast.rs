@@ -1,7 +1,7 @@
 //! The same work in Rust written for speed: words of 64 bits, bit-sliced digits,
 //! remainders taken once, one pass over the matrix file, no allocation, states
-//! and frames changed where they stand. Linear algebra is written over the number
-//! of words and digits, the calls above it at the sizes of document 01. The
+//! and frames changed where they stand. All of it is written over the numbers of
+//! words and digits and compiled for each set, which a call turns to once. The
 //! benchmark runs it beside the proved libraries; the unit tests below compare it
 //! with the reference.
 //!
@@ -11,6 +11,21 @@
 
 // A word's place is that of several arrays at once.
 #![allow(clippy::needless_range_loop)]
+
+use crate::reference::shape::{Shape, SET_1, SET_2, SET_3};
+
+/// Calls what is compiled for the named set: for the words of its strings, its
+/// digits, and the places of its code's planes.
+macro_rules! with_set {
+    ($set:expr, $call:ident($($argument:expr),*)) => {
+        match $set {
+            1 => $call::<4, 81, 88>($($argument),*),
+            2 => $call::<1, 21, 24>($($argument),*),
+            3 => $call::<8, 162, 168>($($argument),*),
+            _ => crate::reference::numbers::NO_SET,
+        }
+    };
+}
 
 pub mod bits;
 pub mod codes;
@@ -30,16 +45,26 @@ mod tests;
 #[cfg(test)]
 mod tests_of_calls;
 
+/// The lengths of the set whose strings have so many words.
+#[inline(always)]
+const fn shape(words: usize) -> Shape {
+    match words {
+        1 => SET_2,
+        4 => SET_1,
+        _ => SET_3,
+    }
+}
+
 /// The part of a slice that starts here and has N bytes.
 #[inline(always)]
 fn part<const N: usize>(bytes: &[u8], at: usize) -> &[u8; N] {
-    bytes[at..].first_chunk().expect("the sizes are those of document 01")
+    bytes[at..].first_chunk().expect("the sizes are those of the set")
 }
 
 /// The same, to be written.
 #[inline(always)]
 fn part_mut<const N: usize>(bytes: &mut [u8], at: usize) -> &mut [u8; N] {
-    bytes[at..].first_chunk_mut().expect("the sizes are those of document 01")
+    bytes[at..].first_chunk_mut().expect("the sizes are those of the set")
 }
 
 /// The words of the bytes that start here.

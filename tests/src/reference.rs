@@ -1,5 +1,6 @@
-//! Document 01, with the sampler of document 02, in Rust, sentence by sentence:
-//! plain rather than fast, and total: no function panics on any input.
+//! Document 01, with the sampler and the sets of document 02, in Rust, sentence by
+//! sentence: plain rather than fast, and total: no function panics on any input.
+//! Sentences that name a size of set 1 are read with that of the shape.
 //!
 //! A byte past the end of a string counts as 0 in the functions of `bits` and
 //! `trits`; the calls above them refuse other lengths than stated.
@@ -13,6 +14,7 @@ pub mod matrix;
 pub mod numbers;
 pub mod pairing;
 pub mod program;
+pub mod shape;
 pub mod trits;
 pub mod unit;
 

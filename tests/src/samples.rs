@@ -1,69 +1,75 @@
 //! Random inputs that the calls accept, and single faults put into them.
 
 use crate::random::Random;
-use crate::reference::bits::STRING_BYTES;
-use crate::reference::dealer::{COPIED_BYTES, VECTOR_TRITS};
 use crate::reference::matrix::{
-    block_of, block_sums, file_of_rows, row_place, BLOCKS, BLOCK_BYTES, CHECK_AT, ROWS, ROW_BYTES,
+    block_of, block_sums, file_of_rows, row_place, rows_end, BLOCK_BYTES, CHECK_AT,
 };
 use crate::reference::program::Inputs;
+use crate::reference::shape::{Shape, SETS};
 use crate::reference::trits::pack_trits;
 
-/// A random trit vector of 256 fit trits, now and then one of a plain sort.
-pub fn fit_vector(random: &mut Random) -> Vec<u8> {
+/// A random trit vector of n fit trits, now and then one of a plain sort.
+pub fn fit_vector(random: &mut Random, shape: Shape) -> Vec<u8> {
     let plain = random.once_in(8).then(|| random.below(3) as u8);
-    let trits: Vec<u8> =
-        (0..VECTOR_TRITS).map(|_| plain.unwrap_or(random.below(3) as u8)).collect();
-    pack_trits(STRING_BYTES, |j| trits[j])
+    let trits: Vec<u8> = (0..shape.bits).map(|_| plain.unwrap_or(random.below(3) as u8)).collect();
+    pack_trits(shape.string_bytes(), |j| trits[j])
 }
 
 /// A fit row: not all zero.
-fn fit_row(random: &mut Random) -> Vec<u8> {
-    let row = fit_vector(random);
+fn fit_row(random: &mut Random, shape: Shape) -> Vec<u8> {
+    let row = fit_vector(random, shape);
     match row.iter().all(|byte| *byte == 0) {
-        true => row_with_one_trit(random),
+        true => row_with_one_trit(random, shape),
         false => row,
     }
 }
 
 /// A row with a single 1 or 2, the nearest to a zero row.
-fn row_with_one_trit(random: &mut Random) -> Vec<u8> {
-    let place = random.below(VECTOR_TRITS);
+fn row_with_one_trit(random: &mut Random, shape: Shape) -> Vec<u8> {
+    let place = random.below(shape.bits);
     let trit = 1 + random.below(2) as u8;
-    pack_trits(STRING_BYTES, |j| if j == place { trit } else { 0 })
+    pack_trits(shape.string_bytes(), |j| if j == place { trit } else { 0 })
 }
 
-/// 81 fit rows, 5,184 bytes.
-pub fn fit_rows(random: &mut Random) -> Vec<u8> {
-    (0..ROWS).flat_map(|_| fit_row(random)).collect()
+/// A fit row set.
+pub fn fit_rows(random: &mut Random, shape: Shape) -> Vec<u8> {
+    (0..shape.digits).flat_map(|_| fit_row(random, shape)).collect()
+}
+
+/// "matrix row i having trit 1 in column i alone"
+pub fn diagonal_file(shape: Shape) -> Vec<u8> {
+    let row = |i: usize| pack_trits(shape.string_bytes(), |j| u8::from(i == j));
+    file_of_rows(shape, &(0..shape.digits).flat_map(row).collect::<Vec<u8>>())
 }
 
 /// A fit matrix file.
-pub fn fit_file(random: &mut Random) -> Vec<u8> {
-    file_of_rows(&fit_rows(random))
+pub fn fit_file(random: &mut Random, shape: Shape) -> Vec<u8> {
+    file_of_rows(shape, &fit_rows(random, shape))
 }
 
 /// An accepted tape.
-pub fn accepted_tape(random: &mut Random) -> Vec<u8> {
-    let strings = (0..COPIED_BYTES / STRING_BYTES).flat_map(|_| random.contents(STRING_BYTES));
+pub fn accepted_tape(random: &mut Random, shape: Shape) -> Vec<u8> {
+    let n = shape.string_bytes();
+    let strings = (0..shape.copied_bytes() / n).flat_map(|_| random.contents(n));
     let copied: Vec<u8> = strings.collect();
-    [copied, fit_vector(random)].concat()
+    [copied, fit_vector(random, shape)].concat()
 }
 
 /// The parts of an accepted run.
-pub fn fit_inputs(random: &mut Random) -> Inputs {
+pub fn fit_inputs(random: &mut Random, shape: Shape) -> Inputs {
     Inputs {
-        key_halves: [0, 1].map(|_| random.contents(STRING_BYTES)),
-        label_halves: [0, 1].map(|_| random.contents(STRING_BYTES)),
-        tape: accepted_tape(random),
-        file: fit_file(random),
+        shape,
+        key_halves: [0, 1].map(|_| random.contents(shape.string_bytes())),
+        label_halves: [0, 1].map(|_| random.contents(shape.string_bytes())),
+        tape: accepted_tape(random, shape),
+        file: fit_file(random, shape),
     }
 }
 
 /// Gives every block of a file the check of its bytes, so that only what lies
 /// behind the check is at fault.
 pub fn seal(file: &mut [u8]) {
-    for number in 0..BLOCKS {
+    for number in 0..file.len() / BLOCK_BYTES {
         let sums = block_sums(&block_of(file, number));
         let check_at = BLOCK_BYTES * number + CHECK_AT;
         if let Some(check) = file.get_mut(check_at..check_at + 2) {
@@ -101,48 +107,48 @@ pub fn chosen_faults(choice: usize) -> Vec<FileFault> {
 pub const FAULT_CHOICES: usize = 1 << FILE_FAULTS.len();
 
 /// Puts these faults into a file of the right length, at random places.
-pub fn damage_file(random: &mut Random, file: &mut [u8], faults: &[FileFault]) {
+pub fn damage_file(random: &mut Random, shape: Shape, file: &mut [u8], faults: &[FileFault]) {
     for fault in faults {
-        damage_content(random, file, *fault);
+        damage_content(random, shape, file, *fault);
     }
     seal(file);
     // A check is damaged last, as sealing mends it.
     if faults.contains(&FileFault::Check) {
-        let place = BLOCK_BYTES * random.below(BLOCKS) + CHECK_AT + random.below(2);
+        let place = BLOCK_BYTES * random.below(shape.blocks()) + CHECK_AT + random.below(2);
         change(random, file, place);
     }
 }
 
-fn damage_content(random: &mut Random, file: &mut [u8], fault: FileFault) {
+fn damage_content(random: &mut Random, shape: Shape, file: &mut [u8], fault: FileFault) {
     match fault {
         FileFault::Check => {}
         FileFault::Header => {
-            let place = BLOCK_BYTES * random.below(BLOCKS) + random.below(4);
+            let place = BLOCK_BYTES * random.below(shape.blocks()) + random.below(4);
             change(random, file, place);
         }
         FileFault::UnusedByte => {
-            let number = random.below(BLOCKS);
-            let used = if number == BLOCKS - 1 { 260 } else { 452 };
+            let number = random.below(shape.blocks());
+            let used = rows_end(shape, number);
             let place = BLOCK_BYTES * number + used + random.below(CHECK_AT - used);
             change(random, file, place);
         }
         FileFault::UnfitTrit => {
-            let start = row_place(random.below(ROWS));
-            set_both_bits(random, file, start);
+            let start = row_place(shape, random.below(shape.digits));
+            set_both_bits(random, shape, file, start);
         }
         FileFault::ZeroRow => {
-            let start = row_place(random.below(ROWS));
-            if let Some(row) = file.get_mut(start..start + ROW_BYTES) {
+            let start = row_place(shape, random.below(shape.digits));
+            if let Some(row) = file.get_mut(start..start + shape.vector_bytes()) {
                 row.fill(0);
             }
         }
     }
 }
 
-/// Turns one trit of the 64-byte vector at `start` unfit.
-pub fn set_both_bits(random: &mut Random, bytes: &mut [u8], start: usize) {
-    let (place, bit) = (random.below(STRING_BYTES), 1 << random.below(8));
-    for plane in [start, start + STRING_BYTES] {
+/// Turns one trit of the vector of n trits at `start` unfit.
+pub fn set_both_bits(random: &mut Random, shape: Shape, bytes: &mut [u8], start: usize) {
+    let (place, bit) = (random.below(shape.string_bytes()), 1 << random.below(8));
+    for plane in [start, start + shape.string_bytes()] {
         if let Some(byte) = bytes.get_mut(plane + place) {
             *byte |= bit;
         }
@@ -154,6 +160,20 @@ pub fn change(random: &mut Random, bytes: &mut [u8], place: usize) {
     if let Some(byte) = bytes.get_mut(place) {
         *byte ^= 1 + random.below(255) as u8;
     }
+}
+
+/// Numbers that name no set, also those that a narrower number would take for one.
+pub const NO_SETS: [u32; 10] =
+    [0, 4, 5, 255, 256, 257, (1 << 16) + 2, (1 << 24) + 3, (1 << 31) + 1, u32::MAX];
+
+/// Lengths of a slice that has this one in each set: none, each of them and those
+/// beside them.
+pub fn lengths_of_sets(length: impl Fn(Shape) -> usize) -> Vec<usize> {
+    let about = SETS.into_iter().flat_map(|shape| length(shape) - 1..length(shape) + 2);
+    let mut lengths: Vec<usize> = about.chain([0]).collect();
+    lengths.sort_unstable();
+    lengths.dedup();
+    lengths
 }
 
 /// Mostly the right length, else one beside it or any.

@@ -3,6 +3,7 @@
 
 use service_pair_tests::random::{report, seed, Random};
 use service_pair_tests::reference::program::program;
+use service_pair_tests::reference::shape::SET_1;
 use service_pair_tests::samples::fit_inputs;
 use std::env;
 use std::fs::{self, File, Permissions};
@@ -425,7 +426,7 @@ fn a_proved_program_runs_at_once() {
 #[test]
 fn quick_prints_what_the_program_prints() {
     let mut random = Random::for_test("quick");
-    let fit = fit_inputs(&mut random).bytes();
+    let fit = fit_inputs(&mut random, SET_1).bytes();
     let cases = [sample(), fit[..fit.len() - 1].to_vec(), [&fit[..], &[0; 99]].concat(), fit];
     for input in &cases {
         let (status, printed, said) = real_run(&["--quick", "-"], input);

@@ -1,13 +1,13 @@
-//! The examples in C, run as programs: the counter reader on fit files and on
-//! every refusal, both units in two processes, and the self-test.
+//! The examples in C, run as programs in every set: the counter reader on fit
+//! files and on every refusal, both units in two processes, and the self-test.
 
 use service_pair_tests::random::{report, seed, Random};
-use service_pair_tests::reference::evaluator::{CODE_BYTES, CODE_PLANE};
-use service_pair_tests::reference::frame::{frame_of, SHARE, SHARE_BYTES};
+use service_pair_tests::reference::frame::{frame_of, HEADER_BYTES, SHARE};
 use service_pair_tests::reference::join::join;
-use service_pair_tests::reference::matrix::{matrix_check, FILE_BYTES, ROWS};
-use service_pair_tests::reference::numbers::DONE;
+use service_pair_tests::reference::matrix::matrix_check;
+use service_pair_tests::reference::numbers::{DONE, WRONG_LENGTH};
 use service_pair_tests::reference::program::digits;
+use service_pair_tests::reference::shape::{Shape, SETS, SET_1};
 use service_pair_tests::reference::trits::pack_trits;
 use service_pair_tests::samples::{damage_file, fit_file, FileFault};
 use std::collections::{BTreeMap, BTreeSet};
@@ -38,18 +38,19 @@ fn folder(name: &str) -> PathBuf {
     folder
 }
 
-/// What a counter has.
+/// What a counter has, and the set that it names.
 struct Files {
+    shape: Shape,
     matrix: Vec<u8>,
     shares: [Vec<u8>; 2],
 }
 
 impl Files {
     /// A fit matrix and two fit share frames of one session.
-    fn fit(random: &mut Random) -> Files {
+    fn fit(random: &mut Random, shape: Shape) -> Files {
         let session = random.session();
-        let shares = [0, 1].map(|side| frame_of(SHARE, side, session, &fit_share(random)));
-        Files { matrix: fit_file(random), shares }
+        let shares = [0, 1].map(|side| frame_of(SHARE, side, session, &fit_share(random, shape)));
+        Files { shape, matrix: fit_file(random, shape), shares }
     }
 
     fn save(&self, folder: &Path) {
@@ -59,28 +60,29 @@ impl Files {
         }
     }
 
-    fn load(folder: &Path) -> Files {
+    fn load(folder: &Path, shape: Shape) -> Files {
         let read = |name: &str| fs::read(folder.join(name)).expect("the file is there");
-        Files { matrix: read("matrix"), shares: ["share0", "share1"].map(read) }
+        Files { shape, matrix: read("matrix"), shares: ["share0", "share1"].map(read) }
     }
 
     /// The reference's number, the matrix judged first, and what is printed.
     fn expected(&self) -> (u32, String) {
-        let number = matrix_check(&self.matrix);
+        let number = matrix_check(self.shape, &self.matrix);
         if number != DONE {
             return (number, String::new());
         }
-        let answer = join(&self.shares[0], &self.shares[1], CODE_BYTES);
+        let [share0, share1] = &self.shares;
+        let answer = join(self.shape, share0, share1, self.shape.code_bytes());
         match answer.number {
-            DONE => (DONE, digits(&answer.bytes) + "\n"),
+            DONE => (DONE, digits(self.shape, &answer.bytes) + "\n"),
             number => (number, String::new()),
         }
     }
 }
 
-fn fit_share(random: &mut Random) -> Vec<u8> {
-    let trits: Vec<u8> = (0..ROWS).map(|_| random.below(3) as u8).collect();
-    pack_trits(CODE_PLANE, |i| trits.get(i).copied().unwrap_or(0))
+fn fit_share(random: &mut Random, shape: Shape) -> Vec<u8> {
+    let trits: Vec<u8> = (0..shape.digits).map(|_| random.below(3) as u8).collect();
+    pack_trits(shape.code_plane(), |i| trits.get(i).copied().unwrap_or(0))
 }
 
 /// Exit status, standard output and standard error.
@@ -90,13 +92,22 @@ fn run(command: &mut Command) -> (Option<i32>, String, String) {
     (output.status.code(), text(output.stdout), text(output.stderr))
 }
 
+/// The words that name a set; the first one need not be named.
+fn words(random: &mut Random, shape: Shape) -> Vec<String> {
+    match shape == SET_1 && random.once_in(2) {
+        true => vec![],
+        false => vec![shape.set.to_string()],
+    }
+}
+
 /// Runs the counter reader on these files and compares what it prints and how
 /// it ends. Gives the number back and the message.
-fn compare(folder: &Path, files: &Files) -> (u32, String) {
+fn compare(random: &mut Random, folder: &Path, files: &Files) -> (u32, String) {
     files.save(folder);
     let (number, printed) = files.expected();
     let mut command = Command::new(example("counter_reader"));
-    command.current_dir(folder).args(["matrix", "share0", "share1"]);
+    command.current_dir(folder).args(words(random, files.shape));
+    command.args(["matrix", "share0", "share1"]);
     let (status, output, message) = run(&mut command);
     assert_eq!(output, printed, "SEED={}", seed());
     assert_eq!(status, Some(i32::from(number != DONE)), "SEED={}", seed());
@@ -111,31 +122,43 @@ type Fault = fn(&mut Random, &mut Files);
 
 /// Single faults, each with its number.
 const FAULTS: [(u32, Fault); 14] = [
-    (1, |_, files| files.matrix.truncate(FILE_BYTES - 1)),
+    (1, |_, files| files.matrix.truncate(files.shape.file_bytes() - 1)),
     (1, |_, files| files.matrix.push(0)),
     (1, |_, files| files.matrix.clear()),
-    (8, |random, files| damage_file(random, &mut files.matrix, &[FileFault::Check])),
-    (9, |random, files| damage_file(random, &mut files.matrix, &[FileFault::UnusedByte])),
-    (10, |random, files| damage_file(random, &mut files.matrix, &[FileFault::UnfitTrit])),
-    (12, |random, files| damage_file(random, &mut files.matrix, &[FileFault::ZeroRow])),
+    (8, |random, files| damage(random, files, FileFault::Check)),
+    (9, |random, files| damage(random, files, FileFault::UnusedByte)),
+    (10, |random, files| damage(random, files, FileFault::UnfitTrit)),
+    (12, |random, files| damage(random, files, FileFault::ZeroRow)),
     (3, |random, files| files.shares[random.below(2)].truncate(5)),
     (3, |random, files| files.shares[random.below(2)][0] = 3),
     (4, |random, files| files.shares[random.below(2)].push(0)),
     (5, |random, files| files.shares[random.below(2)][2] ^= 1),
     (6, |_, files| files.shares.swap(0, 1)),
-    (10, |_, files| (files.shares[1][6], files.shares[1][17]) = (1, 1)),
-    (11, |random, files| files.shares[random.below(2)][SHARE_BYTES - 1] |= 2),
+    (10, |_, files| {
+        for plane in [HEADER_BYTES, HEADER_BYTES + files.shape.code_plane()] {
+            files.shares[1][plane] = 1;
+        }
+    }),
+    // The highest bit of a plane is a digit's in no set.
+    (11, |random, files| files.shares[random.below(2)][files.shape.share_bytes() - 1] |= 0x80),
 ];
+
+fn damage(random: &mut Random, files: &mut Files, fault: FileFault) {
+    damage_file(random, files.shape, &mut files.matrix, &[fault]);
+}
 
 #[test]
 fn the_counter_reader_prints_the_code() {
     let mut random = Random::for_test("counter reader");
     let folder = folder("counter_reader");
-    let count = 40;
-    for _ in 0..count {
-        assert_eq!(compare(&folder, &Files::fit(&mut random)).0, DONE);
+    let count = 20;
+    for shape in SETS {
+        for _ in 0..count {
+            let files = Files::fit(&mut random, shape);
+            assert_eq!(compare(&mut random, &folder, &files).0, DONE);
+        }
     }
-    report("examples: files that the counter reader joins", count);
+    report("examples: files that the counter reader joins", SETS.len() * count);
 }
 
 #[test]
@@ -143,59 +166,115 @@ fn the_counter_reader_has_a_message_for_each_number() {
     let mut random = Random::for_test("counter reader faults");
     let folder = folder("counter_reader_faults");
     let mut texts = BTreeMap::new();
-    for (number, fault) in FAULTS {
-        let mut files = Files::fit(&mut random);
-        fault(&mut random, &mut files);
-        let (found, message) = compare(&folder, &files);
-        assert_eq!(found, number);
-        let text = message.split_once(": ").map(|parts| parts.1.to_string());
-        texts.insert(text, number);
+    for shape in SETS {
+        for (number, fault) in FAULTS {
+            let mut files = Files::fit(&mut random, shape);
+            fault(&mut random, &mut files);
+            let (found, message) = compare(&mut random, &folder, &files);
+            assert_eq!(found, number);
+            let text = message.split_once(": ").map(|parts| parts.1.to_string());
+            texts.insert(text, number);
+        }
     }
-    // No two of the numbers 1, 3 to 6 and 8 to 12 have the same text.
+    // No two of the numbers 1, 3 to 6 and 8 to 12 have the same text, in any set.
     assert_eq!(texts.len(), 10, "{texts:?}");
-    report("examples: refusals of the counter reader", FAULTS.len());
+    report("examples: refusals of the counter reader", SETS.len() * FAULTS.len());
+}
+
+/// Files of one set under another's name.
+#[test]
+fn the_counter_reader_refuses_files_of_another_set() {
+    let mut random = Random::for_test("counter reader sets");
+    let folder = folder("counter_reader_sets");
+    for shape in SETS {
+        for named in SETS.into_iter().filter(|named| *named != shape) {
+            let files = Files { shape: named, ..Files::fit(&mut random, shape) };
+            assert_eq!(compare(&mut random, &folder, &files).0, WRONG_LENGTH);
+        }
+    }
+    report("examples: files of another set", SETS.len() * (SETS.len() - 1));
+}
+
+/// A wrong call: nothing is printed, and one line says why.
+fn said(command: &mut Command) -> String {
+    let (status, output, message) = run(command);
+    assert_eq!((status, &output[..]), (Some(2), ""));
+    assert_eq!(message.lines().count(), 1, "{message}");
+    message
 }
 
 #[test]
 fn missing_files_and_words_are_said() {
     let mut command = Command::new(example("counter_reader"));
     command.current_dir(folder("counter_reader_missing")).args(["nothing", "share0", "share1"]);
-    let (status, output, message) = run(&mut command);
-    assert_eq!((status, &output[..]), (Some(2), ""));
-    assert!(message.starts_with("nothing: "), "{message}");
-    let (status, output, message) = run(&mut Command::new(example("counter_reader")));
-    assert_eq!((status, &output[..]), (Some(2), ""));
-    assert!(message.starts_with("usage: "), "{message}");
+    assert!(said(&mut command).starts_with("nothing: "));
+    for (name, words) in [("counter_reader", 0), ("counter_reader", 5), ("two_units", 3)] {
+        let usage = said(Command::new(example(name)).args(vec!["1"; words]));
+        assert!(usage.starts_with(&format!("usage: {name} ")), "{usage}");
+    }
+}
+
+#[test]
+fn words_that_are_no_set_are_said() {
+    let wrong = ["0", "4", "9", "", "12", "1 ", "-1", "x", "two"];
+    for word in wrong {
+        let expected = format!("a set is 1, 2 or 3, not '{word}'\n");
+        assert_eq!(said(Command::new(example("two_units")).arg(word)), expected);
+        let mut counter = Command::new(example("counter_reader"));
+        assert_eq!(said(counter.args([word, "matrix", "share0", "share1"])), expected);
+    }
+    report("examples: words that are no set", 2 * wrong.len());
 }
 
 /// The sessions that `two_units` runs.
 const SESSIONS: usize = 3;
 
+/// What `two_units` prints: each session's code twice, and that they are equal.
+/// Gives the codes of the sessions before the last, whose line is given.
+fn earlier_codes<'a>(output: &'a str, line: &str) -> Vec<&'a str> {
+    let last = format!("two units  {line}evaluator  {line}equal\n");
+    let before = output.strip_suffix(&last).expect("the last session's code, and equal");
+    let lines: Vec<&str> = before.lines().collect();
+    assert_eq!(lines.len(), 2 * (SESSIONS - 1), "{output}");
+    let code = |session: &[&'a str]| {
+        let code = session[0].strip_prefix("two units  ").expect("the units' code");
+        assert_eq!(session[1].strip_prefix("evaluator  "), Some(code));
+        code
+    };
+    lines.chunks(2).map(code).collect()
+}
+
 #[test]
 fn two_units_agree_with_the_evaluator() {
+    let mut random = Random::for_test("two units");
     let folder = folder("two_units");
-    let count = 20;
-    for _ in 0..count {
-        let (status, output, message) = run(Command::new(example("two_units")).arg(&folder));
-        assert_eq!((status, &message[..]), (Some(0), ""));
-        // What the counter had last, judged by the reference.
-        let files = Files::load(&folder);
-        let (number, line) = files.expected();
-        assert_eq!(number, DONE);
-        let last = format!("two units  {line}evaluator  {line}equal\n");
-        let before = output.strip_suffix(&last).expect("the last session's code, and equal");
-        // The sessions before it, each with its own code.
-        let lines: Vec<&str> = before.lines().collect();
-        assert_eq!(lines.len(), 2 * (SESSIONS - 1), "{output}");
-        let mut codes = BTreeSet::from([line.trim_end()]);
-        for session in lines.chunks(2) {
-            let code = session[0].strip_prefix("two units  ").expect("the units' code");
-            assert_eq!(session[1].strip_prefix("evaluator  "), Some(code));
-            assert!(code.len() == ROWS && codes.insert(code), "{output}");
+    let count = 10;
+    for shape in SETS {
+        for _ in 0..count {
+            let mut command = Command::new(example("two_units"));
+            let (status, output, message) = run(command.arg(shape.set.to_string()).arg(&folder));
+            assert_eq!((status, &message[..]), (Some(0), ""));
+            // What the counter had last, judged by the reference.
+            let files = Files::load(&folder, shape);
+            let (number, line) = files.expected();
+            assert_eq!(number, DONE);
+            // Each session has its own code.
+            let earlier = earlier_codes(&output, &line);
+            let codes: BTreeSet<&str> = earlier.into_iter().chain([line.trim_end()]).collect();
+            assert_eq!(codes.len(), SESSIONS, "{output}");
+            assert!(codes.iter().all(|code| code.len() == shape.digits), "{output}");
+            assert_eq!(compare(&mut random, &folder, &files).0, DONE);
         }
-        assert_eq!(compare(&folder, &files).0, DONE);
     }
-    report("examples: sessions of two units in two processes", SESSIONS * count);
+    report("examples: sessions of two units in two processes", SETS.len() * SESSIONS * count);
+}
+
+#[test]
+fn two_units_are_of_set_1_where_none_is_named() {
+    let (status, output, message) = run(&mut Command::new(example("two_units")));
+    assert_eq!((status, &message[..]), (Some(0), ""));
+    let code = output.lines().next().and_then(|line| line.strip_prefix("two units  "));
+    assert_eq!(code.map(str::len), Some(SET_1.digits), "{output}");
 }
 
 #[test]

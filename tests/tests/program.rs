@@ -1,13 +1,11 @@
-//! The program over standard input: its sample, every number that it can give,
-//! combinations where the lowest wins, and input of any length.
+//! The program over standard input, which is of set 1: its sample, every number
+//! that it can give, combinations where the lowest wins, and input of any length.
 
 use service_pair_tests::random::{report, seed, Random};
-use service_pair_tests::reference::dealer::COPIED_BYTES;
-use service_pair_tests::reference::matrix::file_of_rows;
 use service_pair_tests::reference::program::{program, Inputs, INPUT_BYTES};
-use service_pair_tests::reference::trits::pack_trits;
+use service_pair_tests::reference::shape::SET_1;
 use service_pair_tests::samples::{
-    chosen_faults, damage_file, fit_inputs, set_both_bits, FAULT_CHOICES,
+    chosen_faults, damage_file, diagonal_file, fit_inputs, set_both_bits, FAULT_CHOICES,
 };
 use std::env;
 use std::fs::OpenOptions;
@@ -66,14 +64,13 @@ fn compare(input: &[u8]) -> String {
 
 #[test]
 fn the_sample_is_printed() {
-    let row = |i: usize| pack_trits(32, |j| u8::from(i == j));
-    let rows: Vec<u8> = (0..81).flat_map(row).collect();
     let first = |byte: u8| [vec![byte], vec![0; 31]].concat();
     let inputs = Inputs {
+        shape: SET_1,
         key_halves: [first(0x01), first(0)],
         label_halves: [first(0x05), first(0)],
         tape: vec![0; 256],
-        file: file_of_rows(&rows),
+        file: diagonal_file(SET_1),
     };
     let expected = format!("result 0\n101{}\n", "0".repeat(78));
     assert_eq!(compare(&inputs.bytes()), expected);
@@ -84,7 +81,7 @@ fn runs_print_their_digits() {
     let mut random = Random::for_test("program runs");
     let count = 60;
     for _ in 0..count {
-        let printed = compare(&fit_inputs(&mut random).bytes());
+        let printed = compare(&fit_inputs(&mut random, SET_1).bytes());
         assert_eq!(printed.len(), "result 0\n".len() + 82);
     }
     report("program: fit inputs", count);
@@ -97,10 +94,10 @@ fn each_fault_and_the_lowest_of_several() {
     // Every choice of the file's faults, with a fit tape and an unfit one.
     for choice in 0..FAULT_CHOICES {
         for unfit_tape in [false, true] {
-            let mut inputs = fit_inputs(&mut random);
-            damage_file(&mut random, &mut inputs.file, &chosen_faults(choice));
+            let mut inputs = fit_inputs(&mut random, SET_1);
+            damage_file(&mut random, SET_1, &mut inputs.file, &chosen_faults(choice));
             if unfit_tape {
-                set_both_bits(&mut random, &mut inputs.tape, COPIED_BYTES);
+                set_both_bits(&mut random, SET_1, &mut inputs.tape, SET_1.copied_bytes());
             }
             compare(&inputs.bytes());
             count += 1;
@@ -112,7 +109,7 @@ fn each_fault_and_the_lowest_of_several() {
 #[test]
 fn other_lengths_print_result_1() {
     let mut random = Random::for_test("program lengths");
-    let long = [fit_inputs(&mut random).bytes(), random.bytes(200_000)].concat();
+    let long = [fit_inputs(&mut random, SET_1).bytes(), random.bytes(200_000)].concat();
     let near = INPUT_BYTES - 3..INPUT_BYTES + 4;
     let lengths: Vec<usize> =
         (0..5).chain(near).chain([32, 128, 384, 6_144, 13_056, 65_536, 200_000]).collect();
@@ -127,7 +124,7 @@ fn other_lengths_print_result_1() {
 #[test]
 fn a_byte_more_prints_result_1() {
     let mut random = Random::for_test("program byte more");
-    let mut input = fit_inputs(&mut random).bytes();
+    let mut input = fit_inputs(&mut random, SET_1).bytes();
     assert!(compare(&input).starts_with("result 0\n"));
     input.push(0);
     assert_eq!(input.len(), 6_529);
@@ -140,7 +137,7 @@ fn a_byte_more_prints_result_1() {
 fn input_may_come_in_pieces() {
     let mut random = Random::for_test("program pieces");
     for _ in 0..5 {
-        let input = fit_inputs(&mut random).bytes();
+        let input = fit_inputs(&mut random, SET_1).bytes();
         let expected = program(&input);
         let mut cuts: Vec<usize> = (0..6).map(|_| random.below(input.len())).collect();
         cuts.extend([0, input.len()]);
@@ -181,7 +178,7 @@ fn errors_with(stdout: Stdio) -> String {
     command.stdin(Stdio::piped()).stdout(stdout).stderr(Stdio::piped());
     let mut child = command.spawn().expect("the program starts");
     let stdin = child.stdin.take().expect("standard input is piped");
-    whole(fit_inputs(&mut random).bytes())(stdin);
+    whole(fit_inputs(&mut random, SET_1).bytes())(stdin);
     let ended = child.wait_with_output().expect("the program ends");
     String::from_utf8(ended.stderr).expect("the program says text")
 }

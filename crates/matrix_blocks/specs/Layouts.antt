@@ -3,8 +3,8 @@ use Rattle.matrix_model.specs.Block.{Layout}
 use Rattle.matrix_blocks.specs.declared.layouts.Layout.{Layout as Numbers}
 
 -- the layout of these numbers
-abbrev pub layoutOf : Numbers → Layout
-layoutOf numbers =
+abbrev pub layoutIn : Numbers → Layout
+layoutIn numbers =
     record {
       letter = numbers .letter;
       set = numbers .set;

@@ -3,7 +3,7 @@ ghost use mathlib.Core.Path.{_≡_};
 ghost use Prim.Native.Nat.{_<_};
 ghost use lib.ListN.{length};
 ghost use Rattle.matrix_model.specs.File.{Fits, blockCount, fileSize, block, badCheckOf, badLayoutOf};
-ghost use Rattle.matrix_blocks.specs.Layouts.{layoutOf};
+ghost use Rattle.matrix_blocks.specs.Layouts.{layoutIn};
 use crate::blocks::laid_out;
 use crate::counts::block_count;
 use crate::layouts::Layout;
@@ -12,7 +12,7 @@ use matrix_sums::sums::check_holds;
 
 // Block `b` of a file.
 fn block_at(layout: Layout, file: &[u8], b: usize) -> &[u8]
-    requires { ⌜ Fits (layoutOf layout) × (length (now file) ≡ fileSize (layoutOf layout)) × (b < blockCount (layoutOf layout)) ⌝ }
+    requires { ⌜ Fits (layoutIn layout) × (length (now file) ≡ fileSize (layoutIn layout)) × (b < blockCount (layoutIn layout)) ⌝ }
     ensures { λ r. ⌜ now r ≡ block (now (file .entry)) b ⌝ }
 {
     let at = BLOCK_BYTES * b;
@@ -21,8 +21,8 @@ fn block_at(layout: Layout, file: &[u8], b: usize) -> &[u8]
 
 // Whether a block's check differs.
 pub fn bad_check(layout: Layout, file: &[u8]) -> bool
-    requires { ⌜ Fits (layoutOf layout) × (length (now file) ≡ fileSize (layoutOf layout)) ⌝ }
-    ensures { λ r. ⌜ r ≡ badCheckOf (layoutOf layout) (now (file .entry)) ⌝ }
+    requires { ⌜ Fits (layoutIn layout) × (length (now file) ≡ fileSize (layoutIn layout)) ⌝ }
+    ensures { λ r. ⌜ r ≡ badCheckOf (layoutIn layout) (now (file .entry)) ⌝ }
 {
     let n = block_count(layout);
     let mut b: usize = 0;
@@ -38,8 +38,8 @@ pub fn bad_check(layout: Layout, file: &[u8]) -> bool
 
 // Whether a block differs from the layout.
 pub fn bad_layout(layout: Layout, file: &[u8]) -> bool
-    requires { ⌜ Fits (layoutOf layout) × (length (now file) ≡ fileSize (layoutOf layout)) ⌝ }
-    ensures { λ r. ⌜ r ≡ badLayoutOf (layoutOf layout) (now (file .entry)) ⌝ }
+    requires { ⌜ Fits (layoutIn layout) × (length (now file) ≡ fileSize (layoutIn layout)) ⌝ }
+    ensures { λ r. ⌜ r ≡ badLayoutOf (layoutIn layout) (now (file .entry)) ⌝ }
 {
     let n = block_count(layout);
     let mut b: usize = 0;

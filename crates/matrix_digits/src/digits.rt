@@ -6,10 +6,9 @@ ghost use Prim.Native.Nat.{_+_, _*_, _/_, _%_, _<_, _≤_, min};
 ghost use lib.ListN.{length, drop};
 ghost use Rattle.linear_model.specs.Products.{matrixProduct};
 ghost use Rattle.matrix_model.specs.Block.{rowsIn};
-ghost use Rattle.matrix_model.specs.File.{Fits, blockCount, fileSize, rowPlaneOf, rowsOf};
-ghost use Rattle.matrix_model.specs.Product.{codePlaneOf};
+ghost use Rattle.matrix_model.specs.File.{Fits, blockCount, fileSize, rowPlaneOf, codePlaneOf, rowsOf};
 ghost use Rattle.matrix_model.specs.Internal.Digits.{codeDigit, Span, Gathering};
-ghost use Rattle.matrix_blocks.specs.Layouts.{layoutOf};
+ghost use Rattle.matrix_blocks.specs.Layouts.{layoutIn};
 use linear::products::matrix_product;
 use linear_words::bytes::least;
 use linear_words::bytes::wide;
@@ -41,8 +40,8 @@ struct Gathered {
 
 // The digits of `n` rows of block `b`, from place `r` on.
 fn piece(layout: Layout, file: &[u8], v: &[u8], b: usize, r: usize, n: usize) -> Digits
-    requires { ⌜ Fits (layoutOf layout) × (length (now file) ≡ fileSize (layoutOf layout)) × (length (now v) ≡ layoutOf layout .rowBytes) × (b < blockCount (layoutOf layout)) × (r + n ≤ rowsIn (layoutOf layout) b) × (n ≤ 8) ⌝ }
-    ensures { λ d. ⌜ Span n (codeDigit (layoutOf layout) (now (file .entry)) (now (v .entry))) (layoutOf layout .blockRows * b + r) (d .low) (d .high) ⌝ }
+    requires { ⌜ Fits (layoutIn layout) × (length (now file) ≡ fileSize (layoutIn layout)) × (length (now v) ≡ layoutIn layout .rowBytes) × (b < blockCount (layoutIn layout)) × (r + n ≤ rowsIn (layoutIn layout) b) × (n ≤ 8) ⌝ }
+    ensures { λ d. ⌜ Span n (codeDigit (layoutIn layout) (now (file .entry)) (now (v .entry))) (layoutIn layout .blockRows * b + r) (d .low) (d .high) ⌝ }
 {
     let at = BLOCK_BYTES * b + HEAD_BYTES + layout.row_bytes * r;
     let end = at + layout.row_bytes * n;
@@ -56,8 +55,8 @@ fn piece(layout: Layout, file: &[u8], v: &[u8], b: usize, r: usize, n: usize) ->
 
 // The same row, by the next block where place `r` is past block `b`.
 fn place_of(layout: Layout, b: usize, r: usize) -> Place
-    requires { ⌜ Fits (layoutOf layout) × (b < blockCount (layoutOf layout)) × (r ≤ layoutOf layout .blockRows) ⌝ }
-    ensures { λ p. ⌜ (layoutOf layout .blockRows * p .block + p .row ≡ layoutOf layout .blockRows * b + r) × (p .row < layoutOf layout .blockRows) ⌝ }
+    requires { ⌜ Fits (layoutIn layout) × (b < blockCount (layoutIn layout)) × (r ≤ layoutIn layout .blockRows) ⌝ }
+    ensures { λ p. ⌜ (layoutIn layout .blockRows * p .block + p .row ≡ layoutIn layout .blockRows * b + r) × (p .row < layoutIn layout .blockRows) ⌝ }
 {
     if r < layout.block_rows {
         return Place { block: b, row: r };
@@ -70,8 +69,8 @@ fn place_of(layout: Layout, b: usize, r: usize) -> Place
 
 // Up to eight digits more, of one block.
 fn more(layout: Layout, file: &[u8], v: &[u8], start: usize, g: Gathered) -> Gathered
-    requires { ⌜ Fits (layoutOf layout) × (length (now file) ≡ fileSize (layoutOf layout)) × (length (now v) ≡ layoutOf layout .rowBytes) × Gathering (layoutOf layout) (codeDigit (layoutOf layout) (now file) (now v)) start (g .done) (g .block) (g .place) (g .low) (g .high) × (start ≤ g .done) × (g .done < start + 8) × (g .done < layoutOf layout .rowCount) ⌝ }
-    ensures { λ r. ⌜ Gathering (layoutOf layout) (codeDigit (layoutOf layout) (now (file .entry)) (now (v .entry))) start (r .done) (r .block) (r .place) (r .low) (r .high) × (g .done < r .done) ⌝ }
+    requires { ⌜ Fits (layoutIn layout) × (length (now file) ≡ fileSize (layoutIn layout)) × (length (now v) ≡ layoutIn layout .rowBytes) × Gathering (layoutIn layout) (codeDigit (layoutIn layout) (now file) (now v)) start (g .done) (g .block) (g .place) (g .low) (g .high) × (start ≤ g .done) × (g .done < start + 8) × (g .done < layoutIn layout .rowCount) ⌝ }
+    ensures { λ r. ⌜ Gathering (layoutIn layout) (codeDigit (layoutIn layout) (now (file .entry)) (now (v .entry))) start (r .done) (r .block) (r .place) (r .low) (r .high) × (g .done < r .done) ⌝ }
 {
     let n = least(8, rows_in(layout, g.block) - g.place);
     let d = piece(layout, file, v, g.block, g.place, n);
@@ -88,8 +87,8 @@ fn more(layout: Layout, file: &[u8], v: &[u8], start: usize, g: Gathered) -> Gat
 
 // The digits up to row `end`, and those of its block that come with them.
 fn gather(layout: Layout, file: &[u8], v: &[u8], start: usize, end: usize, g: Gathered) -> Gathered
-    requires { ⌜ Fits (layoutOf layout) × (length (now file) ≡ fileSize (layoutOf layout)) × (length (now v) ≡ layoutOf layout .rowBytes) × Gathering (layoutOf layout) (codeDigit (layoutOf layout) (now file) (now v)) start (g .done) (g .block) (g .place) (g .low) (g .high) × (start ≤ g .done) × (end ≡ min (start + 8) (layoutOf layout .rowCount)) ⌝ }
-    ensures { λ r. ⌜ Gathering (layoutOf layout) (codeDigit (layoutOf layout) (now (file .entry)) (now (v .entry))) start (r .done) (r .block) (r .place) (r .low) (r .high) × (start ≤ r .done) × (end ≤ r .done) ⌝ }
+    requires { ⌜ Fits (layoutIn layout) × (length (now file) ≡ fileSize (layoutIn layout)) × (length (now v) ≡ layoutIn layout .rowBytes) × Gathering (layoutIn layout) (codeDigit (layoutIn layout) (now file) (now v)) start (g .done) (g .block) (g .place) (g .low) (g .high) × (start ≤ g .done) × (end ≡ min (start + 8) (layoutIn layout .rowCount)) ⌝ }
+    ensures { λ r. ⌜ Gathering (layoutIn layout) (codeDigit (layoutIn layout) (now (file .entry)) (now (v .entry))) start (r .done) (r .block) (r .place) (r .low) (r .high) × (start ≤ r .done) × (end ≤ r .done) ⌝ }
 {
     let mut all = g;
     while all.done < end {
@@ -120,11 +119,11 @@ fn after_byte(g: Gathered) -> Gathered
 
 // The rows of a file times a vector, modulo 3, as a code.
 pub fn code_of(layout: Layout, file: &[u8], v: &[u8], out: &mut [u8])
-    requires { ⌜ Fits (layoutOf layout) × (length (now file) ≡ fileSize (layoutOf layout)) × (length (now v) ≡ layoutOf layout .rowBytes) × (2 * codePlaneOf (layoutOf layout) ≤ length (now out)) ⌝ }
+    requires { ⌜ Fits (layoutIn layout) × (length (now file) ≡ fileSize (layoutIn layout)) × (length (now v) ≡ layoutIn layout .rowBytes) × (2 * codePlaneOf (layoutIn layout) ≤ length (now out)) ⌝ }
     ensures { λ _. ⌜
         now (out .exit) ≡
-        matrixProduct (codePlaneOf (layoutOf layout)) (rowPlaneOf (layoutOf layout)) (layoutOf layout .rowCount) (rowsOf (layoutOf layout) (now (file .entry))) (now (v .entry))
-        ++ drop (2 * codePlaneOf (layoutOf layout)) (now (out .entry))
+        matrixProduct (codePlaneOf (layoutIn layout)) (rowPlaneOf (layoutIn layout)) (layoutIn layout .rowCount) (rowsOf (layoutIn layout) (now (file .entry))) (now (v .entry))
+        ++ drop (2 * codePlaneOf (layoutIn layout)) (now (out .entry))
         ⌝ }
 {
     let count = layout.row_count;

@@ -1,3 +1,2 @@
 // The digits of the rows of a matrix file times a vector.
 pub mod digits;
-pub mod product;

@@ -6,7 +6,7 @@ ghost use Prim.Native.Nat.{_≤_};
 ghost use lib.ListN.{length, take, drop};
 ghost use Rattle.numbers.specs.Number.{first};
 ghost use Rattle.matrix_model.specs.File.{Fits, fileSize, rowsSize, rowsOf, fileFrom, faultsOf, checkNumberOf, readNumberOf, writeNumberOf, readOutputOf, writeOutputOf, SurvivesOf, RestoresOf};
-ghost use Rattle.matrix_blocks.specs.Layouts.{layoutOf};
+ghost use Rattle.matrix_blocks.specs.Layouts.{layoutIn};
 use linear_words::copies::put;
 use matrix_blocks::blocks::block_of;
 use matrix_blocks::blocks::rows_of_block;
@@ -26,8 +26,8 @@ use numbers::table::WRONG_LENGTH;
 
 // The number of a file of the right length: a check over all blocks before any layout, and so on.
 fn file_number(layout: Layout, file: &[u8]) -> u32
-    requires { ⌜ Fits (layoutOf layout) × (length (now file) ≡ fileSize (layoutOf layout)) ⌝ }
-    ensures { λ r. ⌜ r ≡ first (faultsOf (layoutOf layout) (now (file .entry))) ⌝ }
+    requires { ⌜ Fits (layoutIn layout) × (length (now file) ≡ fileSize (layoutIn layout)) ⌝ }
+    ensures { λ r. ⌜ r ≡ first (faultsOf (layoutIn layout) (now (file .entry))) ⌝ }
 {
     if bad_check(layout, file) {
         return BLOCK_CHECK;
@@ -40,8 +40,8 @@ fn file_number(layout: Layout, file: &[u8]) -> u32
 
 // The number of any bytes.
 pub fn file_check(layout: Layout, file: &[u8]) -> u32
-    requires { ⌜ Fits (layoutOf layout) ⌝ }
-    ensures { λ r. ⌜ r ≡ checkNumberOf (layoutOf layout) (now (file .entry)) ⌝ }
+    requires { ⌜ Fits (layoutIn layout) ⌝ }
+    ensures { λ r. ⌜ r ≡ checkNumberOf (layoutIn layout) (now (file .entry)) ⌝ }
 {
     if file.len() != file_size(layout) {
         return WRONG_LENGTH;
@@ -51,8 +51,8 @@ pub fn file_check(layout: Layout, file: &[u8]) -> u32
 
 // Writes the rows of a file.
 fn write_rows(layout: Layout, file: &[u8], out: &mut [u8])
-    requires { ⌜ Fits (layoutOf layout) × (length (now file) ≡ fileSize (layoutOf layout)) × (rowsSize (layoutOf layout) ≤ length (now out)) ⌝ }
-    ensures { λ _. ⌜ now (out .exit) ≡ rowsOf (layoutOf layout) (now (file .entry)) ++ drop (rowsSize (layoutOf layout)) (now (out .entry)) ⌝ }
+    requires { ⌜ Fits (layoutIn layout) × (length (now file) ≡ fileSize (layoutIn layout)) × (rowsSize (layoutIn layout) ≤ length (now out)) ⌝ }
+    ensures { λ _. ⌜ now (out .exit) ≡ rowsOf (layoutIn layout) (now (file .entry)) ++ drop (rowsSize (layoutIn layout)) (now (out .entry)) ⌝ }
 {
     let n = block_count(layout);
     let mut b: usize = 0;
@@ -62,10 +62,10 @@ fn write_rows(layout: Layout, file: &[u8], out: &mut [u8])
     }
 }
 
-// Writes the file of a set of rows.
+// Writes the file of rows.
 fn write_blocks(layout: Layout, rows: &[u8], out: &mut [u8])
-    requires { ⌜ Fits (layoutOf layout) × (length (now rows) ≡ rowsSize (layoutOf layout)) × (fileSize (layoutOf layout) ≤ length (now out)) ⌝ }
-    ensures { λ _. ⌜ now (out .exit) ≡ fileFrom (layoutOf layout) (now (rows .entry)) ++ drop (fileSize (layoutOf layout)) (now (out .entry)) ⌝ }
+    requires { ⌜ Fits (layoutIn layout) × (length (now rows) ≡ rowsSize (layoutIn layout)) × (fileSize (layoutIn layout) ≤ length (now out)) ⌝ }
+    ensures { λ _. ⌜ now (out .exit) ≡ fileFrom (layoutIn layout) (now (rows .entry)) ++ drop (fileSize (layoutIn layout)) (now (out .entry)) ⌝ }
 {
     let n = block_count(layout);
     let mut b: usize = 0;
@@ -78,10 +78,10 @@ fn write_blocks(layout: Layout, rows: &[u8], out: &mut [u8])
 
 // The reader.
 pub fn file_read(layout: Layout, file: &[u8], out: &mut [u8]) -> u32
-    requires { ⌜ Fits (layoutOf layout) ⌝ }
-    ensures result { λ r. ⌜ r ≡ readNumberOf (layoutOf layout) (now (file .entry)) (length (now (out .entry))) ⌝ }
-    ensures output { λ _. ⌜ now (out .exit) ≡ readOutputOf (layoutOf layout) (now (file .entry)) (now (out .entry)) ⌝ }
-    ensures round_trip { λ r. ⌜ (r ≡ 0 → RestoresOf (layoutOf layout) (take (rowsSize (layoutOf layout)) (now (out .exit))) (now (file .entry))) ⌝ }
+    requires { ⌜ Fits (layoutIn layout) ⌝ }
+    ensures result { λ r. ⌜ r ≡ readNumberOf (layoutIn layout) (now (file .entry)) (length (now (out .entry))) ⌝ }
+    ensures output { λ _. ⌜ now (out .exit) ≡ readOutputOf (layoutIn layout) (now (file .entry)) (now (out .entry)) ⌝ }
+    ensures round_trip { λ r. ⌜ (r ≡ 0 → RestoresOf (layoutIn layout) (take (rowsSize (layoutIn layout)) (now (out .exit))) (now (file .entry))) ⌝ }
 {
     if out.len() < rows_size(layout) {
         return WRONG_LENGTH;
@@ -96,10 +96,10 @@ pub fn file_read(layout: Layout, file: &[u8], out: &mut [u8]) -> u32
 
 // The writer.
 pub fn file_write(layout: Layout, rows: &[u8], out: &mut [u8]) -> u32
-    requires { ⌜ Fits (layoutOf layout) ⌝ }
-    ensures result { λ r. ⌜ r ≡ writeNumberOf (layoutOf layout) (now (rows .entry)) (length (now (out .entry))) ⌝ }
-    ensures output { λ _. ⌜ now (out .exit) ≡ writeOutputOf (layoutOf layout) (now (rows .entry)) (now (out .entry)) ⌝ }
-    ensures round_trip { λ r. ⌜ (r ≡ 0 → SurvivesOf (layoutOf layout) (now (rows .entry)) (take (fileSize (layoutOf layout)) (now (out .exit)))) ⌝ }
+    requires { ⌜ Fits (layoutIn layout) ⌝ }
+    ensures result { λ r. ⌜ r ≡ writeNumberOf (layoutIn layout) (now (rows .entry)) (length (now (out .entry))) ⌝ }
+    ensures output { λ _. ⌜ now (out .exit) ≡ writeOutputOf (layoutIn layout) (now (rows .entry)) (now (out .entry)) ⌝ }
+    ensures round_trip { λ r. ⌜ (r ≡ 0 → SurvivesOf (layoutIn layout) (now (rows .entry)) (take (fileSize (layoutIn layout)) (now (out .exit)))) ⌝ }
 {
     if rows.len() != rows_size(layout) {
         return WRONG_LENGTH;

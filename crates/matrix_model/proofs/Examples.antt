@@ -9,19 +9,20 @@ use Rattle.linear_model.specs.Bits.{zeros}
 use Rattle.linear_model.proofs.Strings.{getD-zeros, length-zeros}
 use Rattle.numbers.specs.Number.{first}
 use lib.Dec.{lit<}
-use lib.ListN.{length}
 use lib.Seq.{take-all}
+use Rattle.numbers.specs.Sets.{numberIn}
 use Rattle.matrix_model.specs.Block.{rowsIn, laidOut, firstSum, secondSum, check, checkHolds}
-use Rattle.matrix_model.specs.File.{matrixB, blockCount, fileBytes, rowsBytes, rowPlace, block, checkedBlock, laidOutBlock, badCheckOf, badLayoutOf, faultsOf, badCheck, badLayout, checkNumber}
+use Rattle.matrix_model.specs.File.{blockCount, rowPlace, block, checkedBlock, laidOutBlock, badCheckOf, badLayoutOf, faultsOf, layoutOf, checkNumber, matrixB, fileBytes}
 use Rattle.matrix_model.proofs.Tests.{every-true, every-holds}
 use Rattle.matrix_model.proofs.Parts.{same-part}
 
--- 6,144 bytes in 12 blocks, 5,184 of them rows; 7 rows to a block, in block 11, 4
-pub sizes : (blockCount matrixB ≡ 12) × (fileBytes ≡ 6144) × (rowsBytes ≡ 5184)
-sizes = (refl, refl, refl)
+-- 12 blocks, one, and 54
+pub blocks : (blockCount (layoutOf 1) ≡ 12) × (blockCount (layoutOf 2) ≡ 1) × (blockCount (layoutOf 3) ≡ 54)
+blocks = (refl, refl, refl)
 
-pub rows-in : (rowsIn matrixB 0 ≡ 7) × (rowsIn matrixB 10 ≡ 7) × (rowsIn matrixB 11 ≡ 4)
-rows-in = (refl, refl, refl)
+-- the last block has only what remains: four rows, all 21, and three
+pub last-rows : (rowsIn (layoutOf 1) 11 ≡ 4) × (rowsIn (layoutOf 2) 0 ≡ 21) × (rowsIn (layoutOf 3) 53 ≡ 3)
+last-rows = (refl, refl, refl)
 
 -- row 0 starts at byte 4 of block 0, row 80 at that of the fourth row of block 11
 pub places : (rowPlace matrixB 0 ≡ 4) × (rowPlace matrixB 7 ≡ 516) × (rowPlace matrixB 80 ≡ 5828)
@@ -69,7 +70,7 @@ zero-block b l =
     (λ k q. getD-zeros 6144 (512 * b + k) ∙ sym (getD-zeros 512 (0 + k)))
     ∙ take-all 512 (zeros 512) (omega (arith, length-zeros 512))
 
-file-checked : badCheck (zeros 6144) ≡ false
+file-checked : badCheckOf matrixB (zeros 6144) ≡ false
 unfolding badCheckOf
 file-checked = ap not (every-true 12 (checkedBlock (zeros 6144)) (λ b l. ap checkHolds (zero-block b l) ∙ zeros-checked))
 
@@ -77,7 +78,7 @@ zeros-laid-out : laidOut matrixB 0 (zeros 512) ≡ false
 unfolding laidOut every
 zeros-laid-out = refl
 
-file-laid-out : badLayout (zeros 6144) ≡ true
+file-laid-out : badLayoutOf matrixB (zeros 6144) ≡ true
 unfolding badLayoutOf
 file-laid-out = ap not (go (every 12 (laidOutBlock matrixB (zeros 6144))) refl)
   where
@@ -87,6 +88,6 @@ file-laid-out = ap not (go (every 12 (laidOutBlock matrixB (zeros 6144))) refl)
         absurd (false≢true (sym zeros-laid-out ∙ sym (ap (laidOut matrixB 0) (zero-block 0 (lit< tt)))
         ∙ every-holds 12 (laidOutBlock matrixB (zeros 6144)) e 0 (lit< tt)))
 
-pub example-12 : (checkHolds (zeros 512) ≡ true) × (checkNumber (zeros fileBytes) ≡ 9)
-unfolding checkNumber faultsOf first
+pub example-12 : (checkHolds (zeros 512) ≡ true) × (checkNumber 1 (zeros fileBytes) ≡ 9)
+unfolding checkNumber numberIn faultsOf first
 example-12 = (zeros-checked, rw (file-checked, file-laid-out))

@@ -9,7 +9,7 @@ use native.Mathlib.Omega.{arith}
 use lib.Dec.{T, ltb, leb, lit<, lit≤}
 use lib.ListN.{getD}
 use Rattle.matrix_model.specs.Block.{Layout, rowsIn, rowsEnd}
-use Rattle.matrix_model.specs.File.{Fits, blockCount, rowsSize, rowPlaneOf, rowPlace, rowByte, matrixB}
+use Rattle.matrix_model.specs.File.{Fits, blockCount, rowsSize, rowPlaneOf, rowPlace, rowByte, layoutOf}
 
 -- ---- quotients
 
@@ -147,16 +147,16 @@ fits-by layout letter set planes bytes rows check blocks =
       block-bytes = lit≤ blocks;
     }
 
--- document 01's
-pub matrixB-fits : Fits matrixB
-matrixB-fits = fits-by matrixB tt tt refl tt tt tt tt
+-- the three sets'
+pub first-fits : Fits (layoutOf 1)
+first-fits = fits-by (layoutOf 1) tt tt refl tt tt tt tt
 
--- rows of 16 bytes, 28 to a block; of 128 bytes, three to a block; and 256 rows in 37 blocks: `Fits` is not too narrow for them
-short-rows-fit : Fits (record { letter = 0x42; set = 2; rowBytes = 16; blockRows = 28; rowCount = 21 })
-short-rows-fit = fits-by _ tt tt refl tt tt tt tt
+pub second-fits : Fits (layoutOf 2)
+second-fits = fits-by (layoutOf 2) tt tt refl tt tt tt tt
 
-long-rows-fit : Fits (record { letter = 0x42; set = 3; rowBytes = 128; blockRows = 3; rowCount = 162 })
-long-rows-fit = fits-by _ tt tt refl tt tt tt tt
+pub third-fits : Fits (layoutOf 3)
+third-fits = fits-by (layoutOf 3) tt tt refl tt tt tt tt
 
+-- 256 rows in 37 blocks: `Fits` is not too narrow for them
 more-blocks-fit : Fits (record { letter = 0x41; set = 1; rowBytes = 64; blockRows = 7; rowCount = 256 })
 more-blocks-fit = fits-by _ tt tt refl tt tt tt tt

@@ -7,7 +7,6 @@ pub mod Blocks
 pub mod Rows
 pub mod WrittenBlocks
 pub mod RoundTrip
-pub mod Product
 pub mod Examples
 pub mod Sample
 pub mod Internal

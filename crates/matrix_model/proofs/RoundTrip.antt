@@ -14,7 +14,7 @@ use Rattle.linear_model.proofs.Tables.{length-tabulate}
 use Rattle.numbers.specs.Number.{_when_, first}
 use Rattle.numbers.proofs.Numbers.{first-none}
 use Rattle.matrix_model.specs.Block.{Layout, rowsIn, rowsEnd, headByte, unusedByte, laidOut, check, checkHolds, frontOf, blockOf}
-use Rattle.matrix_model.specs.File.{Fits, blockCount, fileSize, rowsSize, block, rowByte, rowsOf, fileByte, fileFrom, checkedBlock, laidOutBlock, badCheckOf, badLayoutOf, faultsOf, rowFaultsOf, checkNumberOf, SurvivesOf, RestoresOf, matrixB, rows, checkNumber, Fit, Restores}
+use Rattle.matrix_model.specs.File.{Fits, blockCount, fileSize, rowsSize, block, rowByte, rowsOf, fileByte, fileFrom, checkedBlock, laidOutBlock, badCheckOf, badLayoutOf, faultsOf, rowFaultsOf, checkNumberOf, SurvivesOf, RestoresOf}
 use Rattle.matrix_model.proofs.Tests.{every-true, every-holds, left-true, right-true}
 use Rattle.matrix_model.proofs.Parts.{getD-part, table-of}
 use Rattle.matrix_model.proofs.Blocks.{check-ext}
@@ -172,9 +172,3 @@ module _ (layout : Layout) (file : List ℕ) where
   -- a fit file is restored by its rows
   pub restored : Fits layout → checkNumberOf layout file ≡ 0 → RestoresOf layout (rowsOf layout file) file
   restored fits e = restores (faults-where-fit e) fits (long-where-fit e)
-
--- ---- of document 01's file
-
-pub fit-length : (file : List ℕ) → Fit file → length file ≡ 6144
-unfolding checkNumber
-fit-length file e = long-where-fit matrixB file e

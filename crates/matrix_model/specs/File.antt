@@ -1,4 +1,4 @@
--- The matrix file: its rows, the file of a set of rows, and the numbers that check, reader and writer give.
+-- The matrix file: its rows, the file of given rows, and the numbers that check, reader and writer give.
 use Prim.Native.Nat.{ℕ, _+_, _-_, _*_, _/_, _%_, _<_, _≤_}
 use mathlib.Core.Path.{_≡_}
 use mathlib.Core.List.{List, [], _∷_}
@@ -7,8 +7,9 @@ use lib.Dec.{eqb, ltb}
 use lib.ListN.{length, getD, take, drop}
 use Rattle.linear_model.specs.Tables.{tabulate, every}
 use Rattle.linear_model.specs.Trits.{fitTrits, zeroTrits}
-use Rattle.linear_model.specs.Products.{rowsFrom}
+use Rattle.linear_model.specs.Products.{planeBytes, rowsFrom}
 use Rattle.numbers.specs.Number.{Condition, _when_, first, output}
+use Rattle.numbers.specs.Sets.{setBits, setDigits, blockRows, numberIn}
 use Rattle.matrix_model.specs.Block.{Layout, blockBytes, headBytes, checkedBytes, checkHolds, laidOut, blockOf}
 
 -- ---- for any layout
@@ -68,6 +69,10 @@ laidOutBlock layout file b = laidOut layout b (block file b)
 abbrev pub rowPlaneOf : Layout → ℕ
 rowPlaneOf layout = layout .rowBytes / 2
 
+-- and of a plane of a code, which has a digit for each row
+abbrev pub codePlaneOf : Layout → ℕ
+codePlaneOf layout = planeBytes (layout .rowCount)
+
 -- row i has no trit with both bits set, and is not all zero
 abbrev pub fitRow : Layout → List ℕ → ℕ → Bool
 fitRow layout rows i = fitTrits (rowPlaneOf layout) (8 * rowPlaneOf layout) (rowsFrom (rowPlaneOf layout) rows i)
@@ -83,15 +88,15 @@ badCheckOf layout file = not (every (blockCount layout) (checkedBlock file))
 unfoldable pub badLayoutOf : Layout → List ℕ → Bool
 badLayoutOf layout file = not (every (blockCount layout) (laidOutBlock layout file))
 
--- 10: a trit with both bits set, in a set of rows
+-- 10: a trit with both bits set, among rows
 unfoldable pub badTritOf : Layout → List ℕ → Bool
 badTritOf layout rows = not (every (layout .rowCount) (fitRow layout rows))
 
--- 12: a row is all zero, in a set of rows
+-- 12: a row is all zero, among rows
 unfoldable pub zeroRowOf : Layout → List ℕ → Bool
 zeroRowOf layout rows = not (every (layout .rowCount) (nonzeroRow layout rows))
 
--- what a set of rows may be refused for, in the table's order
+-- what rows may be refused for, in the table's order
 unfoldable pub rowFaultsOf : Layout → List ℕ → List Condition
 rowFaultsOf layout rows = (10 when badTritOf layout rows) ∷ (12 when zeroRowOf layout rows) ∷ []
 
@@ -132,90 +137,45 @@ abbrev pub writeOutputOf : Layout → List ℕ → List ℕ → List ℕ
 writeOutputOf layout rows old = output (writeNumberOf layout rows (length old)) (fileFrom layout rows) old
 
 -- rows survive in a file: the file is fit and has those rows
-pub record SurvivesOf (layout : Layout) (set file : List ℕ) : Type 0 where
+pub record SurvivesOf (layout : Layout) (rows file : List ℕ) : Type 0 where
   pub fit : checkNumberOf layout file ≡ 0
-  pub same : rowsOf layout file ≡ set
+  pub same : rowsOf layout file ≡ rows
 
 -- rows restore a file: the writer takes them and makes that file of them
-pub record RestoresOf (layout : Layout) (set file : List ℕ) : Type 0 where
-  pub fit : writeNumberOf layout set (fileSize layout) ≡ 0
-  pub same : fileFrom layout set ≡ file
+pub record RestoresOf (layout : Layout) (rows file : List ℕ) : Type 0 where
+  pub fit : writeNumberOf layout rows (fileSize layout) ≡ 0
+  pub same : fileFrom layout rows ≡ file
 
--- ---- the matrix file: 81 rows of 64 bytes, seven to a block
+-- ---- the matrix file of a set
 
-abbrev pub matrixB : Layout
-matrixB = record { letter = 0x42; set = 1; rowBytes = 64; blockRows = 7; rowCount = 81 }
-
--- 6,144 bytes, and 5,184 of rows
-abbrev pub fileBytes : ℕ
-fileBytes = fileSize matrixB
-
-abbrev pub rowsBytes : ℕ
-rowsBytes = rowsSize matrixB
-
--- the 81 rows of a file
-abbrev pub rows : List ℕ → List ℕ
-rows file = rowsOf matrixB file
-
--- the file of 81 rows
-abbrev pub fileOf : List ℕ → List ℕ
-fileOf rows = fileFrom matrixB rows
-
--- what a file of the right length may be refused for, each condition and all of them
-abbrev pub badCheck : List ℕ → Bool
-badCheck file = badCheckOf matrixB file
-
-abbrev pub badLayout : List ℕ → Bool
-badLayout file = badLayoutOf matrixB file
-
-abbrev pub badTrit : List ℕ → Bool
-badTrit file = badTritOf matrixB (rows file)
-
-abbrev pub zeroRow : List ℕ → Bool
-zeroRow file = zeroRowOf matrixB (rows file)
-
-abbrev pub faults : List ℕ → List Condition
-faults file = faultsOf matrixB file
-
--- and a set of rows
-abbrev pub rowFaults : List ℕ → List Condition
-rowFaults rows = rowFaultsOf matrixB rows
+-- its blocks: a row has n trits, and each digit has a row
+abbrev pub layoutOf : ℕ → Layout
+layoutOf set = record { letter = 0x42; set = set; rowBytes = setBits set / 4; blockRows = blockRows set; rowCount = setDigits set }
 
 -- the matrix check
-abbrev pub checkConditions : List ℕ → List Condition
-checkConditions file = checkConditionsOf matrixB file
-
-unfoldable pub checkNumber : List ℕ → ℕ
-checkNumber file = checkNumberOf matrixB file
+unfoldable pub checkNumber : (set : ℕ) → List ℕ → ℕ
+checkNumber set file = numberIn set (checkConditionsOf (layoutOf set) file)
 
 -- the reader, with an output slice of n bytes
-abbrev pub readConditions : List ℕ → ℕ → List Condition
-readConditions file n = readConditionsOf matrixB file n
-
-unfoldable pub readNumber : List ℕ → ℕ → ℕ
-readNumber file n = readNumberOf matrixB file n
+unfoldable pub readNumber : (set : ℕ) → List ℕ → ℕ → ℕ
+readNumber set file n = numberIn set (readConditionsOf (layoutOf set) file n)
 
 -- the writer, with an output slice of n bytes
-abbrev pub writeConditions : List ℕ → ℕ → List Condition
-writeConditions rows n = writeConditionsOf matrixB rows n
-
-unfoldable pub writeNumber : List ℕ → ℕ → ℕ
-writeNumber rows n = writeNumberOf matrixB rows n
-
--- a file is fit where the check gives 0
-abbrev pub Fit : List ℕ → Type 0
-Fit file = checkNumber file ≡ 0
+unfoldable pub writeNumber : (set : ℕ) → List ℕ → ℕ → ℕ
+writeNumber set rows n = numberIn set (writeConditionsOf (layoutOf set) rows n)
 
 -- the reader's and the writer's output slice afterwards
-abbrev pub readOutput : List ℕ → List ℕ → List ℕ
-readOutput file old = output (readNumber file (length old)) (rows file) old
+abbrev pub readOutput : (set : ℕ) → List ℕ → List ℕ → List ℕ
+readOutput set file old = output (readNumber set file (length old)) (rowsOf (layoutOf set) file) old
 
-abbrev pub writeOutput : List ℕ → List ℕ → List ℕ
-writeOutput rows old = output (writeNumber rows (length old)) (fileOf rows) old
+abbrev pub writeOutput : (set : ℕ) → List ℕ → List ℕ → List ℕ
+writeOutput set rows old = output (writeNumber set rows (length old)) (fileFrom (layoutOf set) rows) old
 
--- the round trip
-abbrev pub Survives : List ℕ → List ℕ → Type 0
-Survives set file = SurvivesOf matrixB set file
+-- ---- document 01's: set 1, 81 rows of 64 bytes, seven to a block
 
-abbrev pub Restores : List ℕ → List ℕ → Type 0
-Restores set file = RestoresOf matrixB set file
+abbrev pub matrixB : Layout
+matrixB = layoutOf 1
+
+-- 6,144 bytes
+abbrev pub fileBytes : ℕ
+fileBytes = fileSize matrixB

@@ -1,5 +1,4 @@
 pub mod Block
 pub mod File
 pub mod Sample
-pub mod Product
 pub mod Internal

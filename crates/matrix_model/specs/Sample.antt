@@ -7,7 +7,7 @@ use lib.ListN.{getD}
 use Rattle.linear_model.specs.Tables.{tabulate}
 use Rattle.linear_model.specs.Trits.{packTrits}
 use Rattle.matrix_model.specs.Block.{Layout}
-use Rattle.matrix_model.specs.File.{rowsSize, matrixB, fileOf}
+use Rattle.matrix_model.specs.File.{rowsSize, fileFrom, matrixB}
 
 -- 1 at place i, and 0 elsewhere
 abbrev pub oneAt : ℕ → ℕ → ℕ
@@ -22,4 +22,4 @@ diagonalRows layout = tabulate (rowsSize layout) (diagonalByte layout)
 
 -- the file of these rows
 abbrev pub sampleFile : List ℕ
-sampleFile = fileOf (diagonalRows matrixB)
+sampleFile = fileFrom matrixB (diagonalRows matrixB)

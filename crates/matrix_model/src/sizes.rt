@@ -12,17 +12,10 @@ pub const FIRST_SUM: usize = CHECKED_BYTES;
 
 pub const SECOND_SUM: usize = CHECKED_BYTES + 1;
 
-// Bytes 0 and 3 of every block.
+// Byte 0 of every block.
 pub const LETTER: u8 = 0x42;
 
-pub const SET: u8 = 1;
-
-// A row: two planes of trits.
-pub const ROW_TRITS: usize = 256;
-
-pub const ROW_BYTES: usize = 2 * ROW_TRITS / 8;
-
-// The rows of a full block, and of a file.
+// In set 1, document 01's: the rows of a full block, and of a file.
 pub const BLOCK_ROWS: usize = 7;
 
 pub const ROW_COUNT: usize = 81;

@@ -1,15 +1,15 @@
-// Rows are judged where they stand: in the blocks of a file, or one after the other in a set of rows.
+// Rows are judged where they stand: in the blocks of a file, or one after the other.
 ghost use mathlib.Core.Path.{_≡_};
 ghost use Prim.Native.Nat.{_+_, _*_, _<_, _≤_};
 ghost use lib.ListN.{length, take, drop};
 ghost use Rattle.numbers.specs.Number.{first};
 ghost use Rattle.matrix_model.specs.File.{Fits, blockCount, rowFaultsOf};
-ghost use Rattle.matrix_model.specs.Internal.Rows.{rowsNumber, rowsHeld, heldBytes, rowsInSet};
-ghost use Rattle.matrix_blocks.specs.Layouts.{layoutOf};
+ghost use Rattle.matrix_model.specs.Internal.Rows.{rowsNumber, rowsHeld, heldBytes, rowsForBlock};
+ghost use Rattle.matrix_blocks.specs.Layouts.{layoutIn};
 use linear::trits::row_is_zero;
 use linear::trits::trits_fit;
+use matrix_blocks::blocks::rows_for_block;
 use matrix_blocks::blocks::rows_of_block;
-use matrix_blocks::blocks::rows_of_set;
 use matrix_blocks::counts::block_count;
 use matrix_blocks::counts::rows_in;
 use matrix_blocks::layouts::Layout;
@@ -28,8 +28,8 @@ fn row_of(rows: &[u8], n: usize, i: usize) -> &[u8]
 
 // The number of one row.
 fn row_number(layout: Layout, row: &[u8]) -> u32
-    requires { ⌜ Fits (layoutOf layout) × (length (now row) ≡ layoutOf layout .rowBytes) ⌝ }
-    ensures { λ r. ⌜ r ≡ rowsNumber (layoutOf layout) 1 (now (row .entry)) ⌝ }
+    requires { ⌜ Fits (layoutIn layout) × (length (now row) ≡ layoutIn layout .rowBytes) ⌝ }
+    ensures { λ r. ⌜ r ≡ rowsNumber (layoutIn layout) 1 (now (row .entry)) ⌝ }
 {
     if trits_fit(row, 4 * layout.row_bytes) {
         if row_is_zero(row) {
@@ -42,8 +42,8 @@ fn row_number(layout: Layout, row: &[u8]) -> u32
 
 // The number of `n` rows one after the other. A trit with both bits set comes before a zero row, wherever they stand, so it ends the loop.
 fn rows_number(layout: Layout, rows: &[u8], n: usize) -> u32
-    requires { ⌜ Fits (layoutOf layout) × (length (now rows) ≡ layoutOf layout .rowBytes * n) ⌝ }
-    ensures { λ r. ⌜ r ≡ rowsNumber (layoutOf layout) n (now (rows .entry)) ⌝ }
+    requires { ⌜ Fits (layoutIn layout) × (length (now rows) ≡ layoutIn layout .rowBytes * n) ⌝ }
+    ensures { λ r. ⌜ r ≡ rowsNumber (layoutIn layout) n (now (rows .entry)) ⌝ }
 {
     let mut number: u32 = DONE;
     let mut i: usize = 0;
@@ -60,21 +60,21 @@ fn rows_number(layout: Layout, rows: &[u8], n: usize) -> u32
     number
 }
 
-// The rows of block `b`, in the blocks of a file or in a set of rows.
+// The rows of block `b`, in the blocks of a file or one after the other.
 fn rows_at(layout: Layout, s: &[u8], in_blocks: bool, b: usize) -> &[u8]
-    requires { ⌜ Fits (layoutOf layout) × (length (now s) ≡ heldBytes (layoutOf layout) «in_blocks») × (b < blockCount (layoutOf layout)) ⌝ }
-    ensures { λ r. ⌜ now r ≡ rowsInSet (layoutOf layout) (rowsHeld (layoutOf layout) «in_blocks» (now (s .entry))) b ⌝ }
+    requires { ⌜ Fits (layoutIn layout) × (length (now s) ≡ heldBytes (layoutIn layout) «in_blocks») × (b < blockCount (layoutIn layout)) ⌝ }
+    ensures { λ r. ⌜ now r ≡ rowsForBlock (layoutIn layout) (rowsHeld (layoutIn layout) «in_blocks» (now (s .entry))) b ⌝ }
 {
     if in_blocks {
         return rows_of_block(layout, s, b);
     }
-    rows_of_set(layout, s, b)
+    rows_for_block(layout, s, b)
 }
 
-// The number of all rows, block by block. A set of rows goes the same way, so that `rows_number` is called, and compiled, in one place.
+// The number of all rows, block by block. Rows one after the other go the same way, so that `rows_number` is called, and compiled, in one place.
 pub fn all_rows_number(layout: Layout, s: &[u8], in_blocks: bool) -> u32
-    requires { ⌜ Fits (layoutOf layout) × (length (now s) ≡ heldBytes (layoutOf layout) «in_blocks») ⌝ }
-    ensures { λ r. ⌜ r ≡ first (rowFaultsOf (layoutOf layout) (rowsHeld (layoutOf layout) «in_blocks» (now (s .entry)))) ⌝ }
+    requires { ⌜ Fits (layoutIn layout) × (length (now s) ≡ heldBytes (layoutIn layout) «in_blocks») ⌝ }
+    ensures { λ r. ⌜ r ≡ first (rowFaultsOf (layoutIn layout) (rowsHeld (layoutIn layout) «in_blocks» (now (s .entry)))) ⌝ }
 {
     let blocks = block_count(layout);
     let mut number: u32 = DONE;

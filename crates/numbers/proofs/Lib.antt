@@ -1,3 +1,4 @@
 pub mod Numbers
 pub mod Outputs
 pub mod Lowest
+pub mod Sets

@@ -39,3 +39,6 @@ pub const ZERO_ROW: u32 = 12;
 
 // A source has too few bytes, or too few pairs other than 3.
 pub const SHORT_SOURCE: u32 = 13;
+
+// A call names a set other than 1 to 3.
+pub const NO_SET: u32 = 14;

@@ -5,7 +5,7 @@ ghost use lib.Dec.{eqb};
 ghost use lib.ListN.{length};
 ghost use Rattle.linear_model.specs.Bits.{addBits};
 ghost use Rattle.linear_model.specs.Products.{circulantProduct};
-ghost use Rattle.pair_frames.specs.Schemes.{schemeOf, Fits};
+ghost use Rattle.pair_frames.specs.Schemes.{schemeIn, Fits};
 ghost use Rattle.pair_model.specs.Scheme.{noFiles, field};
 ghost use Rattle.pair_model.specs.Frame.{openKind, openLayout, frameBytes, bodyOf};
 ghost use Rattle.pair_model.specs.Unit.{maskOf};
@@ -14,8 +14,7 @@ use linear::bits::add_bits_to;
 use linear::products::circulant_product;
 use linear_words::copies::put;
 use pair_frames::sizes::HEADER_BYTES;
-use pair_frames::sizes::INNER_ROOM;
-use pair_frames::sizes::KEY_ROOM;
+use pair_frames::sizes::STRING_ROOM;
 use pair_frames::sizes::Sizes;
 
 // K̂ or x̂: a half, its mask and what the other unit has opened, added modulo 2.
@@ -86,14 +85,14 @@ fn mask_of(
         ⌝ }
     ensures { λ _. ⌜
         now (out .exit) ≡
-        maskOf (schemeOf sizes) noFiles side (now («key_hat» .entry)) (now («label_hat» .entry)) (now («key_mask» .entry)) (now («label_mask» .entry))
+        maskOf (schemeIn sizes) noFiles side (now («key_hat» .entry)) (now («label_hat» .entry)) (now («key_mask» .entry)) (now («label_mask» .entry))
         (now (z .entry))
         ⌝ }
 {
     let n = sizes.key_bytes;
     let m = sizes.inner_bytes;
-    let mut factor = [0u8; KEY_ROOM];
-    let mut work = [0u8; INNER_ROOM];
+    let mut factor = [0u8; STRING_ROOM];
+    let mut work = [0u8; STRING_ROOM];
     label_factor(side, label_hat, label_mask, &mut factor[..n]);
     add_products(
         key_hat,
@@ -119,23 +118,23 @@ pub fn write_own_mask(
     out: &mut [u8],
 )
     requires { ⌜
-        Fits sizes × (length (now «label_mask») ≡ sizes .«key_bytes») × (length (now f) ≡ frameBytes (schemeOf sizes) openKind)
+        Fits sizes × (length (now «label_mask») ≡ sizes .«key_bytes») × (length (now f) ≡ frameBytes (schemeIn sizes) openKind)
         × (length (now out) ≡ sizes .«inner_bytes»)
         ⌝ }
     ensures { λ _. ⌜
         now (out .exit) ≡
-        maskOf (schemeOf sizes) noFiles side
+        maskOf (schemeIn sizes) noFiles side
         (addBits (sizes .«key_bytes») (addBits (sizes .«key_bytes») (now (key .entry)) (now («key_mask» .entry)))
-        (field (openLayout (schemeOf sizes)) 0 (bodyOf (now (f .entry)))))
+        (field (openLayout (schemeIn sizes)) 0 (bodyOf (now (f .entry)))))
         (addBits (sizes .«key_bytes») (addBits (sizes .«key_bytes») (now (label .entry)) (now («label_mask» .entry)))
-        (field (openLayout (schemeOf sizes)) 1 (bodyOf (now (f .entry)))))
+        (field (openLayout (schemeIn sizes)) 1 (bodyOf (now (f .entry)))))
         (now («key_mask» .entry)) (now («label_mask» .entry)) (now (z .entry))
         ⌝ }
 {
     let n = sizes.key_bytes;
     let label_at = HEADER_BYTES + n;
-    let mut key_hat = [0u8; KEY_ROOM];
-    let mut label_hat = [0u8; KEY_ROOM];
+    let mut key_hat = [0u8; STRING_ROOM];
+    let mut label_hat = [0u8; STRING_ROOM];
     add_opened(key, key_mask, &f[HEADER_BYTES..label_at], &mut key_hat[..n]);
     add_opened(
         label,

@@ -5,7 +5,7 @@ ghost use lib.ListN.{length};
 ghost use Rattle.linear_model.specs.Bits.{addBits};
 ghost use Rattle.numbers.specs.Number.{atFront};
 ghost use Rattle.pair_frames.specs.Headers.{parametersIn};
-ghost use Rattle.pair_frames.specs.Schemes.{schemeOf, Fits};
+ghost use Rattle.pair_frames.specs.Schemes.{schemeIn, Fits};
 ghost use Rattle.pair_model.specs.Scheme.{files};
 ghost use Rattle.pair_model.specs.Frame.{shareKind, frame, frameBytes};
 ghost use Rattle.pair_model.specs.Unit.{shareOf};
@@ -17,7 +17,7 @@ use pair_frames::frame::frame_bytes;
 use pair_frames::frame::header_bytes;
 use pair_frames::parameters::Parameters;
 use pair_frames::sizes::HEADER_BYTES;
-use pair_frames::sizes::INNER_ROOM;
+use pair_frames::sizes::STRING_ROOM;
 use pair_frames::sizes::Sizes;
 use pair_frames::sizes::TRITS_ROOM;
 use pair_matrix::rows::write_code;
@@ -33,13 +33,13 @@ pub fn write_share_frame(
     out: &mut [u8],
 )
     requires { ⌜
-        Fits sizes × (length (now file) ≡ schemeOf sizes .rowsReading .bytes) × (frameBytes (schemeOf sizes) shareKind ≤ length (now out))
+        Fits sizes × (length (now file) ≡ schemeIn sizes .rowsReading .bytes) × (frameBytes (schemeIn sizes) shareKind ≤ length (now out))
         ⌝ }
     ensures { λ _. ⌜
         now (out .exit) ≡
         atFront
         (frame shareKind (parametersIn parameters)
-        (shareOf (schemeOf sizes) (files (now (file .entry))) (parameters .side)
+        (shareOf (schemeIn sizes) (files (now (file .entry))) (parameters .side)
         (addBits (sizes .«inner_bytes») (now («own_mask» .entry)) (now («other_mask» .entry)))
         (now (r .entry))))
         (now (out .entry))
@@ -48,7 +48,7 @@ pub fn write_share_frame(
     let m = sizes.inner_bytes;
     let planes = 2 * m;
     let end = frame_bytes(sizes, SHARE);
-    let mut w = [0u8; INNER_ROOM];
+    let mut w = [0u8; STRING_ROOM];
     let mut inner = [0u8; TRITS_ROOM];
     add_bits(own_mask, other_mask, &mut w[..m]);
     inner_share(parameters.side, &w[..m], r, &mut inner[..planes]);

@@ -6,7 +6,7 @@ ghost use lib.ListN.{length};
 ghost use Rattle.numbers.specs.Number.{first};
 ghost use Rattle.pair_model.specs.Scheme.{files};
 ghost use Rattle.pair_frames.specs.Headers.{parametersIn};
-ghost use Rattle.pair_frames.specs.Schemes.{schemeOf, Fits};
+ghost use Rattle.pair_frames.specs.Schemes.{schemeIn, Fits};
 ghost use Rattle.pair_model.specs.Frame.{maskKind, kindOf, frameBytes};
 ghost use Rattle.pair_model.specs.Unit.{expectedSide, lengthConditions, headerConditions, contentConditions, stepNumber};
 use linear::trits::trits_fit;
@@ -52,7 +52,7 @@ fn expected_side(kind: u8, side: u8) -> u8
 // The number as far as lengths decide it.
 fn length_number(sizes: Sizes, f: &[u8], file: &[u8], room: usize) -> u32
     requires { ⌜ Fits sizes ⌝ }
-    ensures { λ r. ⌜ r ≡ first (lengthConditions (schemeOf sizes) (now (f .entry)) (files (now (file .entry))) room) ⌝ }
+    ensures { λ r. ⌜ r ≡ first (lengthConditions (schemeIn sizes) (now (f .entry)) (files (now (file .entry))) room) ⌝ }
 {
     if room < frame_bytes(sizes, OPEN) {
         return WRONG_LENGTH;
@@ -69,7 +69,7 @@ fn length_number(sizes: Sizes, f: &[u8], file: &[u8], room: usize) -> u32
 // The number as far as the header and what the unit waits for decide it.
 fn frame_number(sizes: Sizes, parameters: Parameters, stage: u8, f: &[u8]) -> u32
     requires { ⌜ Fits sizes ⌝ }
-    ensures { λ r. ⌜ r ≡ first (headerConditions (schemeOf sizes) (parametersIn parameters) stage (now (f .entry))) ⌝ }
+    ensures { λ r. ⌜ r ≡ first (headerConditions (schemeIn sizes) (parametersIn parameters) stage (now (f .entry))) ⌝ }
 {
     let h = read_header(sizes, f, DEAL, MASK);
     let Header::Fields {
@@ -96,10 +96,10 @@ fn frame_number(sizes: Sizes, parameters: Parameters, stage: u8, f: &[u8]) -> u3
 // The number as far as what the frame brings decides it: the file that is read, or the trits of a deal.
 fn content_number(sizes: Sizes, f: &[u8], file: &[u8]) -> u32
     requires { ⌜
-        Fits sizes × (length (now f) ≡ frameBytes (schemeOf sizes) (kindOf (now f)))
-        × (kindOf (now f) ≡ maskKind → length (now file) ≡ schemeOf sizes .rowsReading .bytes)
+        Fits sizes × (length (now f) ≡ frameBytes (schemeIn sizes) (kindOf (now f)))
+        × (kindOf (now f) ≡ maskKind → length (now file) ≡ schemeIn sizes .rowsReading .bytes)
         ⌝ }
-    ensures { λ r. ⌜ r ≡ first (contentConditions (schemeOf sizes) (now (f .entry)) (files (now (file .entry)))) ⌝ }
+    ensures { λ r. ⌜ r ≡ first (contentConditions (schemeIn sizes) (now (f .entry)) (files (now (file .entry)))) ⌝ }
 {
     if reads_file(f) {
         return file_number(sizes, file);
@@ -125,7 +125,7 @@ pub fn step_number(
 ) -> u32
     requires { ⌜ Fits sizes ⌝ }
     ensures { λ r. ⌜
-        r ≡ stepNumber (schemeOf sizes) (parametersIn parameters) stage (now (f .entry)) (files (now (file .entry))) room
+        r ≡ stepNumber (schemeIn sizes) (parametersIn parameters) stage (now (f .entry)) (files (now (file .entry))) room
         ⌝ }
 {
     let of_lengths = length_number(sizes, f, file, room);

@@ -5,14 +5,18 @@ ghost use lib.ListN.{length, take};
 ghost use Rattle.linear_model.specs.Trits.{bitTrits};
 ghost use Rattle.linear_model.specs.Products.{circulantProduct};
 ghost use Rattle.numbers.specs.Number.{output};
-ghost use Rattle.pair_frames.specs.Schemes.{schemeOf, Fits};
+ghost use Rattle.pair_frames.specs.Schemes.{schemeIn, Fits};
 ghost use Rattle.pair_model.specs.Scheme.{files};
-ghost use Rattle.pair_model.specs.Base.{base};
-ghost use Rattle.pair_model.specs.Evaluator.{code, evaluateNumber};
+ghost use Rattle.numbers.specs.Sets.{numberIn};
+ghost use Rattle.pair_model.specs.Base.{schemeOf};
+ghost use Rattle.pair_model.specs.Evaluator.{code, evaluateConditions, evaluateNumber};
 use linear::products::circulant_product;
 use numbers::table::DONE;
+use numbers::table::NO_SET;
 use numbers::table::WRONG_LENGTH;
-use pair_frames::sizes::BASE;
+use pair_frames::sizes::SET_1;
+use pair_frames::sizes::SET_2;
+use pair_frames::sizes::SET_3;
 use pair_frames::sizes::Sizes;
 use pair_frames::sizes::TRITS_ROOM;
 use pair_matrix::rows::file_number;
@@ -34,10 +38,10 @@ fn inner_vector(sizes: Sizes, key: &[u8], label: &[u8]) -> [u8; TRITS_ROOM]
 // The code of a key and a label: B × (K × label modulo 2) modulo 3.
 fn evaluate_sized(sizes: Sizes, key: &[u8], label: &[u8], file: &[u8], out: &mut [u8]) -> u32
     requires { ⌜ Fits sizes ⌝ }
-    ensures result { λ r. ⌜ r ≡ evaluateNumber (schemeOf sizes) (now (key .entry)) (now (label .entry)) (files (now (file .entry))) (length (now (out .entry))) ⌝ }
+    ensures result { λ r. ⌜ r ≡ evaluateNumber (schemeIn sizes) (now (key .entry)) (now (label .entry)) (files (now (file .entry))) (length (now (out .entry))) ⌝ }
     ensures output { λ r. ⌜
         now (out .exit) ≡
-        output r (code (schemeOf sizes) (now (key .entry)) (now (label .entry)) (files (now (file .entry)))) (now (out .entry))
+        output r (code (schemeIn sizes) (now (key .entry)) (now (label .entry)) (files (now (file .entry)))) (now (out .entry))
         ⌝ }
 {
     let planes = 2 * sizes.inner_bytes;
@@ -59,13 +63,20 @@ fn evaluate_sized(sizes: Sizes, key: &[u8], label: &[u8], file: &[u8], out: &mut
     DONE
 }
 
-// The same at the sizes of document 01.
-pub fn evaluate(key: &[u8], label: &[u8], file: &[u8], out: &mut [u8]) -> u32
-    ensures result { λ r. ⌜ r ≡ evaluateNumber base (now (key .entry)) (now (label .entry)) (files (now (file .entry))) (length (now (out .entry))) ⌝ }
+// The same in a set.
+pub fn evaluate(set: u32, key: &[u8], label: &[u8], file: &[u8], out: &mut [u8]) -> u32
+    ensures result { λ r. ⌜
+        r ≡ numberIn set (evaluateConditions (schemeOf set) (now (key .entry)) (now (label .entry)) (files (now (file .entry))) (length (now (out .entry))))
+        ⌝ }
     ensures output { λ r. ⌜
         now (out .exit) ≡
-        output r (code base (now (key .entry)) (now (label .entry)) (files (now (file .entry)))) (now (out .entry))
+        output r (code (schemeOf set) (now (key .entry)) (now (label .entry)) (files (now (file .entry)))) (now (out .entry))
         ⌝ }
 {
-    evaluate_sized(BASE, key, label, file, out)
+    match set {
+        1 => evaluate_sized(SET_1, key, label, file, out),
+        2 => evaluate_sized(SET_2, key, label, file, out),
+        3 => evaluate_sized(SET_3, key, label, file, out),
+        _ => NO_SET,
+    }
 }

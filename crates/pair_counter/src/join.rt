@@ -8,14 +8,16 @@ ghost use lib.ListN.{length, take};
 ghost use Rattle.linear_model.specs.Trits.{fitTrits, zeroTrits};
 ghost use Rattle.linear_model.specs.Products.{planeBytes};
 ghost use Rattle.numbers.specs.Number.{_when_, first, output};
-ghost use Rattle.pair_frames.specs.Schemes.{schemeOf, Fits};
-ghost use Rattle.pair_model.specs.Base.{base};
+ghost use Rattle.pair_frames.specs.Schemes.{schemeIn, Fits};
+ghost use Rattle.numbers.specs.Sets.{numberIn};
+ghost use Rattle.pair_model.specs.Base.{schemeOf};
 ghost use Rattle.pair_model.specs.Frame.{shareKind, frameBytes, bodyOf, codeBytes};
-ghost use Rattle.pair_model.specs.Join.{joinNumber, joined};
+ghost use Rattle.pair_model.specs.Join.{joinConditions, joinNumber, joined};
 use linear::trits::add_trits;
 use linear::trits::spare_bits_clear;
 use linear::trits::trits_fit;
 use numbers::table::DONE;
+use numbers::table::NO_SET;
 use numbers::table::OTHER_SESSION;
 use numbers::table::OTHER_SIDE;
 use numbers::table::UNFIT_TRIT;
@@ -25,8 +27,10 @@ use pair_frames::frame::SHARE;
 use pair_frames::frame::header_number;
 use pair_frames::frame::read_header;
 use pair_frames::header::Header;
-use pair_frames::sizes::BASE;
 use pair_frames::sizes::HEADER_BYTES;
+use pair_frames::sizes::SET_1;
+use pair_frames::sizes::SET_2;
+use pair_frames::sizes::SET_3;
 use pair_frames::sizes::Sizes;
 
 // The lower of two numbers, where 0 is none.
@@ -44,19 +48,19 @@ fn lower(a: u32, b: u32) -> u32
 
 // The share in a share frame.
 fn share_of(sizes: Sizes, f: &[u8]) -> &[u8]
-    requires { ⌜ Fits sizes × (length (now f) ≡ frameBytes (schemeOf sizes) shareKind) ⌝ }
-    ensures { λ r. ⌜ now r ≡ take (codeBytes (schemeOf sizes)) (bodyOf (now (f .entry))) ⌝ }
+    requires { ⌜ Fits sizes × (length (now f) ≡ frameBytes (schemeIn sizes) shareKind) ⌝ }
+    ensures { λ r. ⌜ now r ≡ take (codeBytes (schemeIn sizes)) (bodyOf (now (f .entry))) ⌝ }
 {
     &f[HEADER_BYTES..HEADER_BYTES + 2 * ((sizes.digits + 7) / 8)]
 }
 
 // The number of one share frame's share: 10 before 11.
 fn share_number(sizes: Sizes, f: &[u8]) -> u32
-    requires { ⌜ Fits sizes × (length (now f) ≡ frameBytes (schemeOf sizes) shareKind) ⌝ }
+    requires { ⌜ Fits sizes × (length (now f) ≡ frameBytes (schemeIn sizes) shareKind) ⌝ }
     ensures { λ n. ⌜
         n ≡ first
-        (10 when not (fitTrits (planeBytes (sizes .digits)) (sizes .digits) (take (codeBytes (schemeOf sizes)) (bodyOf (now (f .entry)))))
-        ∷ 11 when not (zeroTrits (planeBytes (sizes .digits)) (sizes .digits) (take (codeBytes (schemeOf sizes)) (bodyOf (now (f .entry)))))
+        (10 when not (fitTrits (planeBytes (sizes .digits)) (sizes .digits) (take (codeBytes (schemeIn sizes)) (bodyOf (now (f .entry)))))
+        ∷ 11 when not (zeroTrits (planeBytes (sizes .digits)) (sizes .digits) (take (codeBytes (schemeIn sizes)) (bodyOf (now (f .entry)))))
         ∷ [])
         ⌝ }
 {
@@ -72,7 +76,7 @@ fn share_number(sizes: Sizes, f: &[u8]) -> u32
 // The number of a join.
 fn join_number(sizes: Sizes, f: &[u8], g: &[u8], room: usize) -> u32
     requires { ⌜ Fits sizes ⌝ }
-    ensures { λ n. ⌜ n ≡ joinNumber (schemeOf sizes) (now (f .entry)) (now (g .entry)) room ⌝ }
+    ensures { λ n. ⌜ n ≡ joinNumber (schemeIn sizes) (now (f .entry)) (now (g .entry)) room ⌝ }
 {
     if room < 2 * ((sizes.digits + 7) / 8) {
         return WRONG_LENGTH;
@@ -111,10 +115,10 @@ fn join_number(sizes: Sizes, f: &[u8], g: &[u8], room: usize) -> u32
 // The code of two share frames that fit: their bodies added modulo 3. No branch depends on them.
 pub fn add_shares(sizes: Sizes, first: &[u8], second: &[u8], out: &mut [u8])
     requires { ⌜
-        Fits sizes × (length (now first) ≡ frameBytes (schemeOf sizes) shareKind) × (length (now second) ≡ frameBytes (schemeOf sizes) shareKind)
-        × (codeBytes (schemeOf sizes) ≤ length (now out))
+        Fits sizes × (length (now first) ≡ frameBytes (schemeIn sizes) shareKind) × (length (now second) ≡ frameBytes (schemeIn sizes) shareKind)
+        × (codeBytes (schemeIn sizes) ≤ length (now out))
         ⌝ }
-    ensures { λ _. ⌜ now (out .exit) ≡ output 0 (joined (schemeOf sizes) (now (first .entry)) (now (second .entry))) (now (out .entry)) ⌝ }
+    ensures { λ _. ⌜ now (out .exit) ≡ output 0 (joined (schemeIn sizes) (now (first .entry)) (now (second .entry))) (now (out .entry)) ⌝ }
 {
     add_trits(
         share_of(sizes, first),
@@ -124,14 +128,28 @@ pub fn add_shares(sizes: Sizes, first: &[u8], second: &[u8], out: &mut [u8])
 }
 
 // The code of two share frames, side 0's first.
-pub fn join(first: &[u8], second: &[u8], out: &mut [u8]) -> u32
-    ensures result { λ n. ⌜ n ≡ joinNumber base (now (first .entry)) (now (second .entry)) (length (now (out .entry))) ⌝ }
-    ensures output { λ n. ⌜ now (out .exit) ≡ output n (joined base (now (first .entry)) (now (second .entry))) (now (out .entry)) ⌝ }
+fn join_sized(sizes: Sizes, first: &[u8], second: &[u8], out: &mut [u8]) -> u32
+    requires { ⌜ Fits sizes ⌝ }
+    ensures result { λ n. ⌜ n ≡ joinNumber (schemeIn sizes) (now (first .entry)) (now (second .entry)) (length (now (out .entry))) ⌝ }
+    ensures output { λ n. ⌜ now (out .exit) ≡ output n (joined (schemeIn sizes) (now (first .entry)) (now (second .entry))) (now (out .entry)) ⌝ }
 {
-    let number = join_number(BASE, first, second, out.len());
+    let number = join_number(sizes, first, second, out.len());
     if number != DONE {
         return number;
     }
-    add_shares(BASE, first, second, out);
+    add_shares(sizes, first, second, out);
     DONE
+}
+
+// The same in a set.
+pub fn join(set: u32, first: &[u8], second: &[u8], out: &mut [u8]) -> u32
+    ensures result { λ n. ⌜ n ≡ numberIn set (joinConditions (schemeOf set) (now (first .entry)) (now (second .entry)) (length (now (out .entry)))) ⌝ }
+    ensures output { λ n. ⌜ now (out .exit) ≡ output n (joined (schemeOf set) (now (first .entry)) (now (second .entry))) (now (out .entry)) ⌝ }
+{
+    match set {
+        1 => join_sized(SET_1, first, second, out),
+        2 => join_sized(SET_2, first, second, out),
+        3 => join_sized(SET_3, first, second, out),
+        _ => NO_SET,
+    }
 }

@@ -3,35 +3,38 @@ ghost use mathlib.Core.Path.{_≡_};
 ghost use lib.ListN.{length};
 ghost use Rattle.numbers.specs.Number.{output, reported};
 ghost use Rattle.source_model.specs.Disjoint.{DisjointDraws};
-ghost use Rattle.pair_frames.specs.Schemes.{schemeOf, Fits};
+ghost use Rattle.pair_frames.specs.Schemes.{schemeIn, Fits};
 ghost use Rattle.pair_model.specs.Scheme.{noFiles};
-ghost use Rattle.pair_model.specs.Base.{base};
+ghost use Rattle.numbers.specs.Sets.{numberIn};
+ghost use Rattle.pair_model.specs.Base.{schemeOf, InEachSet};
 ghost use Rattle.pair_model.specs.Frame.{sharedParameters};
 ghost use Rattle.pair_model.specs.Sampler.{sampled, nextPair};
-ghost use Rattle.pair_model.specs.Dealer.{dealt, dealNumber, dealSourceNumber, TakesAccepted};
+ghost use Rattle.pair_model.specs.Dealer.{dealt, dealConditions, dealNumber, dealSourceConditions, dealSourceNumber, TakesAccepted};
 ghost use Rattle.pair_model.specs.Run.{protocol};
 ghost use Rattle.pair_model.specs.Theorem.{Privacy};
 use linear::trits::trits_fit;
 use numbers::table::DONE;
+use numbers::table::NO_SET;
 use numbers::table::UNFIT_TRIT;
 use numbers::table::WRONG_LENGTH;
 use pair_deals::frames::write_deal;
-use pair_frames::sizes::BASE;
 use pair_frames::sizes::HEADER_BYTES;
-use pair_frames::sizes::INNER_ROOM;
-use pair_frames::sizes::KEY_ROOM;
+use pair_frames::sizes::SET_1;
+use pair_frames::sizes::SET_2;
+use pair_frames::sizes::SET_3;
+use pair_frames::sizes::STRING_ROOM;
 use pair_frames::sizes::Sizes;
 use pair_sampler::sampler::sample_sized;
 use source::drawing::Draw;
 use source::drawing::refused;
 
 // The bytes of the longest tape.
-const TAPE_ROOM: usize = 4 * KEY_ROOM + 4 * INNER_ROOM;
+const TAPE_ROOM: usize = 4 * STRING_ROOM + 4 * STRING_ROOM;
 
 // The number of a deal.
 fn deal_number(sizes: Sizes, tape: &[u8], room: usize) -> u32
     requires { ⌜ Fits sizes ⌝ }
-    ensures { λ n. ⌜ n ≡ dealNumber (schemeOf sizes) noFiles (now (tape .entry)) room ⌝ }
+    ensures { λ n. ⌜ n ≡ dealNumber (schemeIn sizes) noFiles (now (tape .entry)) room ⌝ }
 {
     let key_bytes = sizes.key_bytes;
     let inner_bytes = sizes.inner_bytes;
@@ -53,8 +56,8 @@ fn deal_number(sizes: Sizes, tape: &[u8], room: usize) -> u32
 // Deals a tape: the accepted ones and no other.
 fn deal_sized(sizes: Sizes, session: u32, tape: &[u8], out: &mut [u8]) -> u32
     requires { ⌜ Fits sizes ⌝ }
-    ensures result { λ n. ⌜ n ≡ dealNumber (schemeOf sizes) noFiles (now (tape .entry)) (length (now (out .entry))) ⌝ }
-    ensures output { λ n. ⌜ now (out .exit) ≡ output n (dealt (schemeOf sizes) (sharedParameters session) noFiles (now (tape .entry))) (now (out .entry)) ⌝ }
+    ensures result { λ n. ⌜ n ≡ dealNumber (schemeIn sizes) noFiles (now (tape .entry)) (length (now (out .entry))) ⌝ }
+    ensures output { λ n. ⌜ now (out .exit) ≡ output n (dealt (schemeIn sizes) (sharedParameters session) noFiles (now (tape .entry))) (now (out .entry)) ⌝ }
 {
     let number = deal_number(sizes, tape, out.len());
     if number != DONE {
@@ -64,24 +67,29 @@ fn deal_sized(sizes: Sizes, session: u32, tape: &[u8], out: &mut [u8]) -> u32
     DONE
 }
 
-// The same at the sizes of document 01. Its frames stand in the views that `Privacy` speaks of, one pairing of accepted tapes for all lists.
-pub fn deal(session: u32, tape: &[u8], out: &mut [u8]) -> u32
-    ensures result { λ n. ⌜ n ≡ dealNumber base noFiles (now (tape .entry)) (length (now (out .entry))) ⌝ }
-    ensures output { λ n. ⌜ now (out .exit) ≡ output n (dealt base (sharedParameters session) noFiles (now (tape .entry))) (now (out .entry)) ⌝ }
-    ensures accepted_tapes { λ _. ⌜ TakesAccepted base ⌝ }
-    ensures privacy { λ _. ⌜ Privacy (protocol base) ⌝ }
+// The same in a set. Its frames stand in the views that `Privacy` speaks of, one pairing of accepted tapes for all lists.
+pub fn deal(set: u32, session: u32, tape: &[u8], out: &mut [u8]) -> u32
+    ensures result { λ n. ⌜ n ≡ numberIn set (dealConditions (schemeOf set) noFiles (now (tape .entry)) (length (now (out .entry)))) ⌝ }
+    ensures output { λ n. ⌜ now (out .exit) ≡ output n (dealt (schemeOf set) (sharedParameters session) noFiles (now (tape .entry))) (now (out .entry)) ⌝ }
+    ensures accepted_tapes { λ _. ⌜ InEachSet TakesAccepted ⌝ }
+    ensures privacy { λ _. ⌜ InEachSet (λ S. Privacy (protocol S)) ⌝ }
 {
-    deal_sized(BASE, session, tape, out)
+    match set {
+        1 => deal_sized(SET_1, session, tape, out),
+        2 => deal_sized(SET_2, session, tape, out),
+        3 => deal_sized(SET_3, session, tape, out),
+        _ => NO_SET,
+    }
 }
 
 // Deals the tape that the sampler draws of source bytes from pair `start` on.
 fn deal_source_sized(sizes: Sizes, session: u32, start: u64, source: &[u8], out: &mut [u8]) -> Draw
     requires { ⌜ Fits sizes ⌝ }
-    ensures result { λ d. ⌜ d .result ≡ dealSourceNumber (schemeOf sizes) noFiles (now (source .entry)) start (length (now (out .entry))) ⌝ }
-    ensures next { λ d. ⌜ d .next ≡ reported (d .result) (nextPair (schemeOf sizes) (now (source .entry)) start) ⌝ }
+    ensures result { λ d. ⌜ d .result ≡ dealSourceNumber (schemeIn sizes) noFiles (now (source .entry)) start (length (now (out .entry))) ⌝ }
+    ensures next { λ d. ⌜ d .next ≡ reported (d .result) (nextPair (schemeIn sizes) (now (source .entry)) start) ⌝ }
     ensures output { λ d. ⌜
         now (out .exit) ≡
-        output (d .result) (dealt (schemeOf sizes) (sharedParameters session) noFiles (sampled (schemeOf sizes) (now (source .entry)) start)) (now (out .entry))
+        output (d .result) (dealt (schemeIn sizes) (sharedParameters session) noFiles (sampled (schemeIn sizes) (now (source .entry)) start)) (now (out .entry))
         ⌝ }
 {
     let key_bytes = sizes.key_bytes;
@@ -98,15 +106,21 @@ fn deal_source_sized(sizes: Sizes, session: u32, start: u64, source: &[u8], out:
     d
 }
 
-// The same at the sizes of document 01. Draws that follow one another share no pair.
-pub fn deal_source(session: u32, start: u64, source: &[u8], out: &mut [u8]) -> Draw
-    ensures result { λ d. ⌜ d .result ≡ dealSourceNumber base noFiles (now (source .entry)) start (length (now (out .entry))) ⌝ }
-    ensures next { λ d. ⌜ d .next ≡ reported (d .result) (nextPair base (now (source .entry)) start) ⌝ }
+// The same in a set. Draws that follow one another share no pair.
+pub fn deal_source(set: u32, session: u32, start: u64, source: &[u8], out: &mut [u8]) -> Draw
+    ensures result { λ d. ⌜ d .result ≡ numberIn set (dealSourceConditions (schemeOf set) noFiles (now (source .entry)) start (length (now (out .entry)))) ⌝ }
+    ensures next { λ d. ⌜ d .next ≡ reported (d .result) (nextPair (schemeOf set) (now (source .entry)) start) ⌝ }
     ensures output { λ d. ⌜
-        now (out .exit) ≡ output (d .result) (dealt base (sharedParameters session) noFiles (sampled base (now (source .entry)) start)) (now (out .entry))
+        now (out .exit) ≡
+        output (d .result) (dealt (schemeOf set) (sharedParameters session) noFiles (sampled (schemeOf set) (now (source .entry)) start)) (now (out .entry))
         ⌝ }
     ensures disjoint { λ _. ⌜ DisjointDraws ⌝ }
-    ensures privacy { λ _. ⌜ Privacy (protocol base) ⌝ }
+    ensures privacy { λ _. ⌜ InEachSet (λ S. Privacy (protocol S)) ⌝ }
 {
-    deal_source_sized(BASE, session, start, source, out)
+    match set {
+        1 => deal_source_sized(SET_1, session, start, source, out),
+        2 => deal_source_sized(SET_2, session, start, source, out),
+        3 => deal_source_sized(SET_3, session, start, source, out),
+        _ => refused(NO_SET),
+    }
 }

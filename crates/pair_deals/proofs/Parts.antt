@@ -21,7 +21,7 @@ use Rattle.pair_model.proofs.Internal.Fields.{tape-K̃0, tape-K̃1, tape-x̃0, 
 use Rattle.pair_model.proofs.Internal.Deals.{fit-r0, deal-written}
 use Rattle.pair_model.proofs.Internal.FieldCopies.{FieldsCopied, fields-none, fields-more, fields-front}
 use Rattle.pair_frames.specs.declared.sizes.Sizes.{Sizes}
-use Rattle.pair_frames.specs.Schemes.{schemeOf}
+use Rattle.pair_frames.specs.Schemes.{schemeIn}
 use Rattle.pair_frames.proofs.Parts.{headed}
 
 -- the k bytes from a to b
@@ -52,10 +52,10 @@ module _ (sizes : Sizes) (t : List ℕ) where
   pub z-is : (K X o₁ o₂ o₃ : List ℕ) → K ≡ addBits (key sizes) (take (key sizes) t) (take (2 * key sizes - key sizes) (drop (key sizes) t))
       → X ≡ addBits (key sizes) (take (3 * key sizes - 2 * key sizes) (drop (2 * key sizes) t)) (take (4 * key sizes - 3 * key sizes) (drop (3 * key sizes) t)) → o₁ ≡ circulantProduct (inner sizes) K X
       → o₂ ≡ addBits (inner sizes) o₁ (take (4 * key sizes + inner sizes + inner sizes - (4 * key sizes + inner sizes)) (drop (4 * key sizes + inner sizes) t)) → o₃ ≡ addBits (inner sizes) o₂ (take (4 * key sizes + inner sizes - 4 * key sizes) (drop (4 * key sizes) t))
-      → o₃ ≡ z (schemeOf sizes) noFiles t side1
+      → o₃ ≡ z (schemeIn sizes) noFiles t side1
   unfolding z
   z-is K X o₁ o₂ o₃ eK eX e₁ e₂ e₃ =
-      let S = schemeOf sizes in
+      let S = schemeIn sizes in
       let n = key sizes in
       let m = inner sizes in
       let k = eK ∙ ap₂ (λ (a b : List ℕ). addBits n a b) (tape-K̃0 S t) (cut n (2 * n) n t (omega arith) ∙ tape-K̃1 S t) in
@@ -64,7 +64,7 @@ module _ (sizes : Sizes) (t : List ℕ) where
       let s = e₂ ∙ ap₂ (λ (a b : List ℕ). addBits m a b) p (cut (4 * n + m) (4 * n + m + m) m t refl ∙ tape-z0 S t) ∙ add-comm m _ _ in
       e₃ ∙ ap₂ (λ (a b : List ℕ). addBits m a b) s (cut (4 * n) (4 * n + m) m t refl ∙ tape-w̃ S t)
 
-  z-long : length (z (schemeOf sizes) noFiles t side1) ≡ inner sizes
+  z-long : length (z (schemeIn sizes) noFiles t side1) ≡ inner sizes
   unfolding z
   z-long =
       let m = inner sizes in
@@ -73,10 +73,10 @@ module _ (sizes : Sizes) (t : List ℕ) where
   -- r1, where all of the output is written
   pub r-is : (d o : List ℕ) → length d ≡ 2 * inner sizes
       → o ≡ subtractTrits (length d / 2) (take (4 * key sizes + inner sizes - 4 * key sizes) (drop (4 * key sizes) t)) (take (4 * key sizes + 2 * inner sizes + 2 * inner sizes - (4 * key sizes + 2 * inner sizes)) (drop (4 * key sizes + 2 * inner sizes) t)) ++ drop (2 * (length d / 2)) d
-      → o ≡ r (schemeOf sizes) t side1
+      → o ≡ r (schemeIn sizes) t side1
   unfolding r
   r-is d o l e =
-      let S = schemeOf sizes in
+      let S = schemeIn sizes in
       let n = key sizes in
       let m = inner sizes in
       let h : length d / 2 ≡ m = omega arith in
@@ -84,38 +84,38 @@ module _ (sizes : Sizes) (t : List ℕ) where
       e ∙ (λ i. subtractTrits (h i) ((cut (4 * n) (4 * n + m) m t refl ∙ tape-w̃ S t) i) ((cut (4 * n + 2 * m) (4 * n + 2 * m + 2 * m) (2 * m) t refl ∙ tape-r0 S t) i) ++ drop (2 * h i) d)
       ∙ ap (λ (x : List ℕ). v ++ x) (drop-of-length-le d {i = 2 * m} (omega arith)) ∙ append-nil v
 
-  r-long : length (r (schemeOf sizes) t side1) ≡ 2 * inner sizes
+  r-long : length (r (schemeIn sizes) t side1) ≡ 2 * inner sizes
   unfolding r
   r-long =
       let m = inner sizes in
-      omega (arith, bytes-subtract m (w̃ (schemeOf sizes) t) (r0 (schemeOf sizes) t) .size)
+      omega (arith, bytes-subtract m (w̃ (schemeIn sizes) t) (r0 (schemeIn sizes) t) .size)
 
   -- unit 0's are the tape's
-  first-z : take (inner sizes) (drop (4 * key sizes + inner sizes) t) ≡ z (schemeOf sizes) noFiles t side0
+  first-z : take (inner sizes) (drop (4 * key sizes + inner sizes) t) ≡ z (schemeIn sizes) noFiles t side0
   unfolding z
-  first-z = tape-z0 (schemeOf sizes) t
+  first-z = tape-z0 (schemeIn sizes) t
 
-  first-r : take (2 * inner sizes) (drop (4 * key sizes + inner sizes + inner sizes) t) ≡ r (schemeOf sizes) t side0
+  first-r : take (2 * inner sizes) (drop (4 * key sizes + inner sizes + inner sizes) t) ≡ r (schemeIn sizes) t side0
   unfolding r
-  first-r = let e : 4 * key sizes + inner sizes + inner sizes ≡ 4 * key sizes + 2 * inner sizes = omega arith in ap (λ (k : ℕ). take (2 * inner sizes) (drop k t)) e ∙ tape-r0 (schemeOf sizes) t
+  first-r = let e : 4 * key sizes + inner sizes + inner sizes ≡ 4 * key sizes + 2 * inner sizes = omega arith in ap (λ (k : ℕ). take (2 * inner sizes) (drop k t)) e ∙ tape-r0 (schemeIn sizes) t
 
   -- a frame of its header and four fields
   deal-fields : (session : ℕ) (i : Side) (d o h a b c v : List ℕ) → FieldsCopied (headerBytes + key sizes + key sizes + inner sizes + 2 * inner sizes) (h ∷ a ∷ b ∷ c ∷ v ∷ []) d o
-      → h ≡ header dealKind (parametersOf i (sharedParameters session)) → a ≡ K̃ (schemeOf sizes) t i → b ≡ x̃ (schemeOf sizes) t i
-      → c ≡ z (schemeOf sizes) noFiles t i → v ≡ r (schemeOf sizes) t i
-      → o ≡ dealFrame (schemeOf sizes) (sharedParameters session) noFiles t i ++ drop (frameBytes (schemeOf sizes) dealKind) d
+      → h ≡ header dealKind (parametersOf i (sharedParameters session)) → a ≡ K̃ (schemeIn sizes) t i → b ≡ x̃ (schemeIn sizes) t i
+      → c ≡ z (schemeIn sizes) noFiles t i → v ≡ r (schemeIn sizes) t i
+      → o ≡ dealFrame (schemeIn sizes) (sharedParameters session) noFiles t i ++ drop (frameBytes (schemeIn sizes) dealKind) d
   unfolding dealFrame deal frame concat
   deal-fields session i d o h a b c v f eh ea eb ec ev =
       let n = key sizes in
       let m = inner sizes in
-      let q : headerBytes + n + n + m + 2 * m ≡ frameBytes (schemeOf sizes) dealKind = omega arith in
+      let q : headerBytes + n + n + m + 2 * m ≡ frameBytes (schemeIn sizes) dealKind = omega arith in
       fields-front f ∙ (λ j. concat (eh j ∷ ea j ∷ eb j ∷ ec j ∷ ev j ∷ []) ++ drop (q j) d)
 
   -- k bytes of the tape
   part-size : (a k : ℕ) → a + k ≤ length t → length (take k (drop a t)) ≡ k
   part-size a k h = length-take-le k (drop a t) (rw length-drop (omega arith))
 
-  module _ (session : ℕ) (d h : List ℕ) (l : length t ≡ tapeBytes (schemeOf sizes)) (room : frameBytes (schemeOf sizes) dealKind ≤ length d) (i : Side) (is : h ≡ header dealKind (parametersOf i (sharedParameters session))) where
+  module _ (session : ℕ) (d h : List ℕ) (l : length t ≡ tapeBytes (schemeIn sizes)) (room : frameBytes (schemeIn sizes) dealKind ≤ length d) (i : Side) (is : h ≡ header dealKind (parametersOf i (sharedParameters session))) where
     -- header, K̃i and x̃i in front
     front-fields : (j k : ℕ) (o₀ o₁ o₂ : List ℕ) → j + key sizes ≤ length t → k + key sizes ≤ length t → o₀ ≡ pasted 0 h d → o₁ ≡ pasted headerBytes (take (key sizes) (drop j t)) o₀
         → o₂ ≡ pasted (headerBytes + key sizes) (take (key sizes) (drop k t)) o₁
@@ -127,33 +127,33 @@ module _ (sizes : Sizes) (t : List ℕ) where
         fields-more f₁ n (take n (drop k t)) o₂ (part-size k n hk) (omega arith) e₂
 
   -- unit 0's frame, field by field
-  pub first-frame : (session : ℕ) (d h o₀ o₁ o₂ o₃ o₄ : List ℕ) → length t ≡ tapeBytes (schemeOf sizes) → frameBytes (schemeOf sizes) dealKind ≤ length d
+  pub first-frame : (session : ℕ) (d h o₀ o₁ o₂ o₃ o₄ : List ℕ) → length t ≡ tapeBytes (schemeIn sizes) → frameBytes (schemeIn sizes) dealKind ≤ length d
       → h ≡ header dealKind (parametersOf side0 (sharedParameters session)) → o₀ ≡ pasted 0 h d → o₁ ≡ pasted headerBytes (take (key sizes) (drop 0 t)) o₀
       → o₂ ≡ pasted (headerBytes + key sizes) (take (key sizes) (drop (2 * key sizes) t)) o₁
       → o₃ ≡ pasted (headerBytes + key sizes + key sizes) (take (inner sizes) (drop (4 * key sizes + inner sizes) t)) o₂
       → o₄ ≡ pasted (headerBytes + key sizes + key sizes + inner sizes) (take (2 * inner sizes) (drop (4 * key sizes + inner sizes + inner sizes) t)) o₃
-      → o₄ ≡ dealFrame (schemeOf sizes) (sharedParameters session) noFiles t side0 ++ drop (frameBytes (schemeOf sizes) dealKind) d
+      → o₄ ≡ dealFrame (schemeIn sizes) (sharedParameters session) noFiles t side0 ++ drop (frameBytes (schemeIn sizes) dealKind) d
   first-frame session d h o₀ o₁ o₂ o₃ o₄ l room is e₀ e₁ e₂ e₃ e₄ =
       let n = key sizes in
       let m = inner sizes in
-      let S = schemeOf sizes in
+      let S = schemeIn sizes in
       let f₂ = front-fields session d h l room side0 is 0 (2 * n) o₀ o₁ o₂ (omega arith) (omega arith) e₀ e₁ e₂ in
       let f₃ = fields-more f₂ m (take m (drop (4 * n + m) t)) o₃ (part-size (4 * n + m) m (omega arith)) (omega arith) e₃ in
       let f₄ = fields-more f₃ (2 * m) (take (2 * m) (drop (4 * n + m + m) t)) o₄ (part-size (4 * n + m + m) (2 * m) (omega arith)) (omega arith) e₄ in
       deal-fields session side0 d o₄ h _ _ _ _ f₄ is (tape-K̃0 S t) (tape-x̃0 S t) first-z first-r
 
   -- unit 1's, whose z1 and r1 are written where they stand
-  pub second-frame : (session : ℕ) (d h o₀ o₁ o₂ v w : List ℕ) → length t ≡ tapeBytes (schemeOf sizes) → frameBytes (schemeOf sizes) dealKind ≤ length d
+  pub second-frame : (session : ℕ) (d h o₀ o₁ o₂ v w : List ℕ) → length t ≡ tapeBytes (schemeIn sizes) → frameBytes (schemeIn sizes) dealKind ≤ length d
       → h ≡ header dealKind (parametersOf side1 (sharedParameters session)) → o₀ ≡ pasted 0 h d → o₁ ≡ pasted headerBytes (take (key sizes) (drop (key sizes) t)) o₀
       → o₂ ≡ pasted (headerBytes + key sizes) (take (key sizes) (drop (3 * key sizes) t)) o₁
-      → v ≡ z (schemeOf sizes) noFiles t side1 → w ≡ r (schemeOf sizes) t side1
+      → v ≡ z (schemeIn sizes) noFiles t side1 → w ≡ r (schemeIn sizes) t side1
       → (let at : ℕ = headerBytes + key sizes + key sizes in let o₃ = take at o₂ ++ (v ++ drop (at + inner sizes - at) (drop at o₂)) in
       take (at + inner sizes) o₃ ++ (w ++ drop (at + inner sizes + 2 * inner sizes - (at + inner sizes)) (drop (at + inner sizes) o₃)))
-      ≡ dealFrame (schemeOf sizes) (sharedParameters session) noFiles t side1 ++ drop (frameBytes (schemeOf sizes) dealKind) d
+      ≡ dealFrame (schemeIn sizes) (sharedParameters session) noFiles t side1 ++ drop (frameBytes (schemeIn sizes) dealKind) d
   second-frame session d h o₀ o₁ o₂ v w l room is e₀ e₁ e₂ ev ew =
       let n = key sizes in
       let m = inner sizes in
-      let S = schemeOf sizes in
+      let S = schemeIn sizes in
       let at : ℕ = headerBytes + n + n in
       let o₃ : List ℕ = take at o₂ ++ (v ++ drop (at + m - at) (drop at o₂)) in
       let lv : length v ≡ m = ap length ev ∙ z-long in
@@ -164,12 +164,12 @@ module _ (sizes : Sizes) (t : List ℕ) where
       deal-fields session side1 d _ h _ _ _ _ f₄ is (tape-K̃1 S t) (tape-x̃1 S t) ev ew
 
   -- the second frame behind the first, whose length the code adds up in its own way
-  pub deal-behind : (session x : ℕ) → x ≡ frameBytes (schemeOf sizes) dealKind → (d o p : List ℕ) → length t ≡ tapeBytes (schemeOf sizes) → dealtBytes (schemeOf sizes) ≤ length d
-      → o ≡ dealFrame (schemeOf sizes) (sharedParameters session) noFiles t side0 ++ drop (frameBytes (schemeOf sizes) dealKind) d
-      → p ≡ dealFrame (schemeOf sizes) (sharedParameters session) noFiles t side1 ++ drop (frameBytes (schemeOf sizes) dealKind) (take (length o - x) (drop x o))
-      → take x o ++ (p ++ drop (length o - x) (drop x o)) ≡ output 0 (dealt (schemeOf sizes) (sharedParameters session) noFiles t) d
+  pub deal-behind : (session x : ℕ) → x ≡ frameBytes (schemeIn sizes) dealKind → (d o p : List ℕ) → length t ≡ tapeBytes (schemeIn sizes) → dealtBytes (schemeIn sizes) ≤ length d
+      → o ≡ dealFrame (schemeIn sizes) (sharedParameters session) noFiles t side0 ++ drop (frameBytes (schemeIn sizes) dealKind) d
+      → p ≡ dealFrame (schemeIn sizes) (sharedParameters session) noFiles t side1 ++ drop (frameBytes (schemeIn sizes) dealKind) (take (length o - x) (drop x o))
+      → take x o ++ (p ++ drop (length o - x) (drop x o)) ≡ output 0 (dealt (schemeIn sizes) (sharedParameters session) noFiles t) d
   deal-behind session x e d o p l h eo ep =
-      let S = schemeOf sizes in
+      let S = schemeIn sizes in
       let n = key sizes in
       let m = inner sizes in
       (λ i. take (e i) o ++ (p ++ drop (length o - e i) (drop (e i) o)))
@@ -177,11 +177,11 @@ module _ (sizes : Sizes) (t : List ℕ) where
       (ep ∙ (λ i. dealFrame S (sharedParameters session) noFiles t side1 ++ drop (frameBytes S dealKind) (take (length o - e i) (drop (e i) o))))
 
   -- the test of r0
-  pub fit-part : {b : Bool} → length t ≡ tapeBytes (schemeOf sizes)
+  pub fit-part : {b : Bool} → length t ≡ tapeBytes (schemeIn sizes)
       → (let v = take (4 * key sizes + 2 * inner sizes + 2 * inner sizes - (4 * key sizes + 2 * inner sizes)) (drop (4 * key sizes + 2 * inner sizes) t) in b ≡ fitTrits (length v / 2) (min (8 * inner sizes) (8 * (length v / 2))) v)
-      → fitTrits (inner sizes) (8 * inner sizes) (r0 (schemeOf sizes) t) ≡ b
+      → fitTrits (inner sizes) (8 * inner sizes) (r0 (schemeIn sizes) t) ≡ b
   fit-part l e =
       let n = key sizes in
       let m = inner sizes in
       let w = cut (4 * n + 2 * m) (4 * n + 2 * m + 2 * m) (2 * m) t refl in
-      sym (e ∙ (λ i. fitTrits (length (w i) / 2) (min (8 * m) (8 * (length (w i) / 2))) (w i)) ∙ fit-r0 (schemeOf sizes) t l)
+      sym (e ∙ (λ i. fitTrits (length (w i) / 2) (min (8 * m) (8 * (length (w i) / 2))) (w i)) ∙ fit-r0 (schemeIn sizes) t l)

@@ -8,7 +8,7 @@ ghost use Rattle.pair_model.specs.Scheme.{noFiles, side0, side1};
 ghost use Rattle.pair_model.specs.Tape.{tapeBytes, z, r};
 ghost use Rattle.pair_model.specs.Frame.{sharedParameters, dealKind, frameBytes};
 ghost use Rattle.pair_model.specs.Dealer.{dealFrame, dealt, dealtBytes};
-ghost use Rattle.pair_frames.specs.Schemes.{schemeOf, Fits};
+ghost use Rattle.pair_frames.specs.Schemes.{schemeIn, Fits};
 use linear::bits::add_bits;
 use linear::bits::add_bits_to;
 use linear::products::circulant_product;
@@ -19,13 +19,13 @@ use pair_frames::frame::DEAL;
 use pair_frames::frame::header_bytes;
 use pair_frames::parameters::Parameters;
 use pair_frames::sizes::HEADER_BYTES;
-use pair_frames::sizes::KEY_ROOM;
+use pair_frames::sizes::STRING_ROOM;
 use pair_frames::sizes::Sizes;
 
 // z1 = z0 + K̃ × x̃ + w̃ modulo 2.
 fn second_z(sizes: Sizes, tape: &[u8], out: &mut [u8])
-    requires { ⌜ Fits sizes × (length (now tape) ≡ tapeBytes (schemeOf sizes)) × (length (now out) ≡ sizes .«inner_bytes») ⌝ }
-    ensures { λ _. ⌜ now (out .exit) ≡ z (schemeOf sizes) noFiles (now (tape .entry)) side1 ⌝ }
+    requires { ⌜ Fits sizes × (length (now tape) ≡ tapeBytes (schemeIn sizes)) × (length (now out) ≡ sizes .«inner_bytes») ⌝ }
+    ensures { λ _. ⌜ now (out .exit) ≡ z (schemeIn sizes) noFiles (now (tape .entry)) side1 ⌝ }
 {
     let key_bytes = sizes.key_bytes;
     let inner_bytes = sizes.inner_bytes;
@@ -34,8 +34,8 @@ fn second_z(sizes: Sizes, tape: &[u8], out: &mut [u8])
     let inner_mask = 4 * key_bytes;
     let first_z = inner_mask + inner_bytes;
     let z_end = first_z + inner_bytes;
-    let mut key_mask = [0u8; KEY_ROOM];
-    let mut label_mask = [0u8; KEY_ROOM];
+    let mut key_mask = [0u8; STRING_ROOM];
+    let mut label_mask = [0u8; STRING_ROOM];
     add_bits(
         &tape[..key_bytes],
         &tape[key_bytes..labels],
@@ -53,8 +53,8 @@ fn second_z(sizes: Sizes, tape: &[u8], out: &mut [u8])
 
 // r1 = w̃ − r0 modulo 3.
 fn second_r(sizes: Sizes, tape: &[u8], out: &mut [u8])
-    requires { ⌜ (length (now tape) ≡ tapeBytes (schemeOf sizes)) × (length (now out) ≡ 2 * sizes .«inner_bytes») ⌝ }
-    ensures { λ _. ⌜ now (out .exit) ≡ r (schemeOf sizes) (now (tape .entry)) side1 ⌝ }
+    requires { ⌜ (length (now tape) ≡ tapeBytes (schemeIn sizes)) × (length (now out) ≡ 2 * sizes .«inner_bytes») ⌝ }
+    ensures { λ _. ⌜ now (out .exit) ≡ r (schemeIn sizes) (now (tape .entry)) side1 ⌝ }
 {
     let key_bytes = sizes.key_bytes;
     let inner_bytes = sizes.inner_bytes;
@@ -70,12 +70,12 @@ fn second_r(sizes: Sizes, tape: &[u8], out: &mut [u8])
 // Writes unit 0's deal frame: K̃0, x̃0, z0, r0.
 fn write_first(sizes: Sizes, session: u32, tape: &[u8], out: &mut [u8])
     requires { ⌜
-        (length (now tape) ≡ tapeBytes (schemeOf sizes)) × (frameBytes (schemeOf sizes) dealKind ≤ length (now out))
+        (length (now tape) ≡ tapeBytes (schemeIn sizes)) × (frameBytes (schemeIn sizes) dealKind ≤ length (now out))
         ⌝ }
     ensures { λ _. ⌜
         now (out .exit) ≡
-        dealFrame (schemeOf sizes) (sharedParameters session) noFiles (now (tape .entry)) side0
-        ++ drop (frameBytes (schemeOf sizes) dealKind) (now (out .entry))
+        dealFrame (schemeIn sizes) (sharedParameters session) noFiles (now (tape .entry)) side0
+        ++ drop (frameBytes (schemeIn sizes) dealKind) (now (out .entry))
         ⌝ }
 {
     let key_bytes = sizes.key_bytes;
@@ -101,13 +101,13 @@ fn write_first(sizes: Sizes, session: u32, tape: &[u8], out: &mut [u8])
 // Writes unit 1's deal frame: K̃1, x̃1, z1, r1.
 fn write_second(sizes: Sizes, session: u32, tape: &[u8], out: &mut [u8])
     requires { ⌜
-        Fits sizes × (length (now tape) ≡ tapeBytes (schemeOf sizes))
-        × (frameBytes (schemeOf sizes) dealKind ≤ length (now out))
+        Fits sizes × (length (now tape) ≡ tapeBytes (schemeIn sizes))
+        × (frameBytes (schemeIn sizes) dealKind ≤ length (now out))
         ⌝ }
     ensures { λ _. ⌜
         now (out .exit) ≡
-        dealFrame (schemeOf sizes) (sharedParameters session) noFiles (now (tape .entry)) side1
-        ++ drop (frameBytes (schemeOf sizes) dealKind) (now (out .entry))
+        dealFrame (schemeIn sizes) (sharedParameters session) noFiles (now (tape .entry)) side1
+        ++ drop (frameBytes (schemeIn sizes) dealKind) (now (out .entry))
         ⌝ }
 {
     let key_bytes = sizes.key_bytes;
@@ -133,10 +133,10 @@ fn write_second(sizes: Sizes, session: u32, tape: &[u8], out: &mut [u8])
 // Writes both deal frames, unit 0's first.
 pub fn write_deal(sizes: Sizes, session: u32, tape: &[u8], out: &mut [u8])
     requires { ⌜
-        Fits sizes × (length (now tape) ≡ tapeBytes (schemeOf sizes)) × (dealtBytes (schemeOf sizes) ≤ length (now out))
+        Fits sizes × (length (now tape) ≡ tapeBytes (schemeIn sizes)) × (dealtBytes (schemeIn sizes) ≤ length (now out))
         ⌝ }
     ensures { λ _. ⌜
-        now (out .exit) ≡ output 0 (dealt (schemeOf sizes) (sharedParameters session) noFiles (now (tape .entry))) (now (out .entry))
+        now (out .exit) ≡ output 0 (dealt (schemeIn sizes) (sharedParameters session) noFiles (now (tape .entry))) (now (out .entry))
         ⌝ }
 {
     let key_bytes = sizes.key_bytes;

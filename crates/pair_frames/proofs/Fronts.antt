@@ -1,21 +1,34 @@
 -- The front of a room: what is read there, and what a call that was lent it left.
 use mathlib.Core.Path.{_≡_, refl, sym, ap, _∙_}
-use mathlib.Core.List.{List, [], _∷_, _++_, append-nil}
-use Prim.Native.Nat.{ℕ, zero, suc, _*_, _/_, _≤_}
+use mathlib.Core.List.{List, _∷_, _++_, append-nil}
+use Prim.Native.Nat.{ℕ, zero, suc, _+_, _-_, _*_, _/_, _≤_}
 use native.Mathlib.Nat.{le-of-suc-le-suc}
 use native.Mathlib.Omega.{arith}
-use lib.ListN.{length, take, drop, length-append, drop-of-length-le}
+use lib.ListN.{length, take, drop, length-append, drop-of-length-le, replicate-append-replicate}
 use lib.Seq.{take-at, length-take-le}
 use Rattle.linear_model.specs.Bits.{zeros}
 use Rattle.linear_model.specs.Trits.{innerShare}
 use Rattle.linear_model.proofs.Strings.{length-zeros}
 use Rattle.numbers.specs.Number.{atFront}
+use Rattle.pair_model.specs.StateSlice.{inRoom}
 
 -- the front of a room of zeros
 pub zeros-front : (n room : ℕ) → n ≤ room → take n (zeros room) ≡ zeros n
 zeros-front zero room h = refl
 zeros-front (suc n) zero h = absurd (omega arith)
 zeros-front (suc n) (suc room) h = ap (λ (s : List ℕ). 0 ∷ s) (zeros-front n room (le-of-suc-le-suc h))
+
+-- what is behind it
+pub zeros-behind : (n room : ℕ) → drop n (zeros room) ≡ zeros (room - n)
+zeros-behind zero room = let e : room ≡ room - 0 = omega arith in ap zeros e
+zeros-behind (suc n) zero = let e : 0 ≡ 0 - suc n = omega arith in ap zeros e
+zeros-behind (suc n) (suc room) = let e : room - n ≡ suc room - suc n = omega arith in zeros-behind n room ∙ ap zeros e
+
+-- and zeros in that room
+pub zeros-room : (n room : ℕ) → n ≤ room → zeros room ≡ inRoom room (zeros n)
+zeros-room n room h =
+    let e : n + (room - length (zeros n)) ≡ room = omega (arith, length-zeros n) in
+    sym (replicate-append-replicate {A = ℕ} n (room - length (zeros n)) 0 ∙ ap zeros e)
 
 -- the front of a room that was lent, and came back as s
 module _ (n : ℕ) (room s : List ℕ) (h : n ≤ length room) (kept : length s ≡ length (take n room)) where

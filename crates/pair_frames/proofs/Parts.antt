@@ -2,20 +2,23 @@
 use mathlib.Core.Path.{_≡_, refl, sym, ap, subst, _∙_}
 use mathlib.Core.List.{List, [], _∷_, _++_, append-assoc}
 use Prim.Native.Nat.{ℕ, _+_, _-_, _<_, _≤_}
+use native.Mathlib.Nat.{zero-add}
 use native.Mathlib.Omega.{arith}
 use lib.ListN.{length, getD, take, drop, length-append, length-drop}
-use lib.Seq.{take-at, drop-drop, length-take-le}
-use Rattle.linear_model.specs.Bits.{addBits}
+use lib.Seq.{drop-drop, length-take-le}
+use Rattle.linear_model.specs.Bits.{zeros, addBits}
 use Rattle.linear_model.proofs.Copies.{pasted}
 use Rattle.linear_model.proofs.Strings.{bytes-add}
 use Rattle.pair_model.specs.Scheme.{layoutBytes, field, concat}
 use Rattle.pair_model.specs.Frame.{Parameters, header, headerBytes}
+use Rattle.pair_model.specs.StateSlice.{inRoom}
 use Rattle.pair_model.proofs.Internal.Fields.{field-at}
 use Rattle.pair_model.proofs.Internal.FieldCopies.{FieldsCopied, fields-more, fields-front}
+use Rattle.pair_frames.proofs.Fronts.{zeros-behind}
 
--- what is copied to the front of a room is read there
-pub front-of-room : (s d o : List ℕ) (n : ℕ) → length s ≡ n → o ≡ pasted 0 s d → take n o ≡ s
-front-of-room s d o n l e = ap (take n) e ∙ take-at s (drop (0 + length s) d) n l
+-- what is copied to the front of a room of zeros is in that room
+pub room-copied : (room : ℕ) (s o : List ℕ) → o ≡ pasted 0 s (zeros room) → o ≡ inRoom room s
+room-copied room s o e = e ∙ ap (λ (k : ℕ). s ++ drop k (zeros room)) (zero-add (length s)) ∙ ap (λ (t : List ℕ). s ++ t) (zeros-behind (length s) room)
 
 -- the length of a header
 header-long : (kind : ℕ) (t : Parameters) → length (header kind t) ≡ headerBytes
@@ -39,10 +42,9 @@ module _ (layout : List ℕ) (i at k : ℕ) (s : List ℕ) (h : i < length layou
   pub field-is : take (getD layout i 0) (drop k s) ≡ field layout i (drop at s)
   field-is = ap (λ (x : ℕ). take (getD layout i 0) (drop x s)) start ∙ field-at layout i at s h
 
-  -- copied to the front of a room
-  pub field-copied : (d o : List ℕ) → length (take (getD layout i 0) (drop k s)) ≡ getD layout i 0
-      → o ≡ pasted 0 (take (getD layout i 0) (drop k s)) d → take (getD layout i 0) o ≡ field layout i (drop at s)
-  field-copied d o l e = front-of-room (take (getD layout i 0) (drop k s)) d o (getD layout i 0) l e ∙ field-is
+  -- copied to the front of a room of zeros
+  pub field-copied : (room : ℕ) (o : List ℕ) → o ≡ pasted 0 (take (getD layout i 0) (drop k s)) (zeros room) → o ≡ inRoom room (field layout i (drop at s))
+  field-copied room o e = room-copied room (take (getD layout i 0) (drop k s)) o e ∙ ap (inRoom room) field-is
 
 -- fields copied one after the other, and then the n bytes behind them written in place
 module _ {d : List ℕ} {k : ℕ} {fields : List (List ℕ)} {o : List ℕ} (h : FieldsCopied k fields d o) (n : ℕ) (room : k + n ≤ length d) where

@@ -6,7 +6,7 @@ ghost use lib.ListN.{length, drop};
 ghost use Rattle.pair_model.specs.Frame.{parameters, header, headerBytes, frame, sideOf, sessionOf, frameBytes};
 ghost use Rattle.pair_model.specs.Header.{readHeader, headerNumber};
 ghost use Rattle.pair_frames.specs.Headers.{parametersIn, headerOf};
-ghost use Rattle.pair_frames.specs.Schemes.{schemeOf, Fits};
+ghost use Rattle.pair_frames.specs.Schemes.{schemeIn, Fits};
 use crate::header::Header;
 use crate::parameters::Parameters;
 use crate::sizes::HEADER_BYTES;
@@ -29,7 +29,7 @@ pub const SHARE: u8 = 4;
 // The whole length of a frame, by its kind.
 pub fn frame_bytes(sizes: Sizes, kind: u8) -> usize
     requires { ⌜ Fits sizes ⌝ }
-    ensures { λ r. ⌜ r ≡ frameBytes (schemeOf sizes) kind ⌝ }
+    ensures { λ r. ⌜ r ≡ frameBytes (schemeIn sizes) kind ⌝ }
 {
     match kind {
         DEAL => HEADER_BYTES + 2 * sizes.key_bytes + 3 * sizes.inner_bytes,
@@ -62,7 +62,7 @@ pub fn parameters_of(f: &[u8]) -> Parameters
 // Reads a frame whose kind may be `lowest` to `highest`.
 pub fn read_header(sizes: Sizes, f: &[u8], lowest: u8, highest: u8) -> Header
     requires { ⌜ Fits sizes ⌝ }
-    ensures { λ r. ⌜ headerOf r ≡ readHeader (schemeOf sizes) lowest highest (now (f .entry)) ⌝ }
+    ensures { λ r. ⌜ headerOf r ≡ readHeader (schemeIn sizes) lowest highest (now (f .entry)) ⌝ }
 {
     if f.len() < HEADER_BYTES {
         return Header::Refused(NO_KIND);

@@ -4,4 +4,5 @@ pub mod fields;
 pub mod frame;
 pub mod header;
 pub mod parameters;
+pub mod sets;
 pub mod sizes;

@@ -1,9 +1,9 @@
-// All lengths and places, in this one place: the sizes of document 01, and what follows from them. The matrix file's are those of its layer.
+// All lengths and places, in this one place: the sizes of the three sets, the rooms of a state, and what follows from set 1's, which is
+// document 01's. The matrix file's are those of its layer.
 use matrix_model::sizes::BLOCK_ROWS;
 pub use matrix_model::sizes::CODE_BYTES;
 pub use matrix_model::sizes::FILE_BYTES;
 use matrix_model::sizes::ROW_COUNT;
-use matrix_model::sizes::SET;
 
 // The sizes that a scheme chooses: the bytes of a key, those of a bit string as long as the inner vector, and the digits of a code; and what
 // its matrix file has besides: the set in byte 3 of its blocks, and the rows of a full block.
@@ -15,21 +15,35 @@ pub struct Sizes {
     pub block_rows: usize,
 }
 
-// The sizes of document 01.
-pub const BASE: Sizes = Sizes {
+// The sizes of each set.
+pub const SET_1: Sizes = Sizes {
     key_bytes: KEY_BYTES,
     inner_bytes: INNER_BYTES,
     digits: DIGITS,
-    set: SET,
+    set: 1,
     block_rows: BLOCK_ROWS,
 };
 
-// The most bytes of a key and of an inner bit string that a unit's state has room for.
-pub const KEY_ROOM: usize = 32;
+pub const SET_2: Sizes = Sizes {
+    key_bytes: 8,
+    inner_bytes: 8,
+    digits: 21,
+    set: 2,
+    block_rows: 28,
+};
 
-pub const INNER_ROOM: usize = 32;
+pub const SET_3: Sizes = Sizes {
+    key_bytes: 64,
+    inner_bytes: 64,
+    digits: 162,
+    set: 3,
+    block_rows: 3,
+};
 
-pub const TRITS_ROOM: usize = 2 * INNER_ROOM;
+// The room that a unit's state has for each bit string, and for the trits of r: the bytes of the largest set.
+pub const STRING_ROOM: usize = 64;
+
+pub const TRITS_ROOM: usize = 2 * STRING_ROOM;
 
 // Bytes of a key, of a label, and of a half or a mask of one.
 pub const KEY_BYTES: usize = 32;
@@ -65,8 +79,24 @@ pub const TAPE_R: usize = 4 * KEY_BYTES + 2 * INNER_BYTES;
 
 pub const TAPE_BYTES: usize = TAPE_R + TRITS_BYTES;
 
-// A state in a slice: a header with the stage for its kind, the halves, the deal and the own mask.
-pub const STATE_BYTES: usize = HEADER_BYTES + 4 * KEY_BYTES + 2 * INNER_BYTES + TRITS_BYTES;
+// A state in a slice: a header with the stage for its kind, the set, and the rooms of the halves, the deal and the own mask, each by its place.
+pub const SET_AT: usize = HEADER_BYTES;
+
+pub const KEY_AT: usize = SET_AT + 1;
+
+pub const LABEL_AT: usize = KEY_AT + STRING_ROOM;
+
+pub const KEY_MASK_AT: usize = LABEL_AT + STRING_ROOM;
+
+pub const LABEL_MASK_AT: usize = KEY_MASK_AT + STRING_ROOM;
+
+pub const Z_AT: usize = LABEL_MASK_AT + STRING_ROOM;
+
+pub const R_AT: usize = Z_AT + STRING_ROOM;
+
+pub const OWN_MASK_AT: usize = R_AT + TRITS_ROOM;
+
+pub const STATE_BYTES: usize = OWN_MASK_AT + STRING_ROOM;
 
 // The program's input: two key halves, two label halves, tape, matrix file, each by its place.
 pub const INPUT_KEY_0: usize = 0;

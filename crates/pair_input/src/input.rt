@@ -40,7 +40,7 @@ pub fn run_number(input: &[u8], room: usize) -> u32
     if room < CODE_BYTES {
         return WRONG_LENGTH;
     }
-    let number = matrix_check(&input[INPUT_FILE..INPUT_BYTES]);
+    let number = matrix_check(1, &input[INPUT_FILE..INPUT_BYTES]);
     if trits_fit(&input[INPUT_TAPE + TAPE_R..INPUT_FILE], INNER_TRITS) {
         return number;
     }

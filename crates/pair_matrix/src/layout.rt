@@ -1,6 +1,6 @@
 // The layout of the matrix file.
 ghost use mathlib.Core.Path.{_≡_};
-ghost use Rattle.matrix_blocks.specs.Layouts.{layoutOf};
+ghost use Rattle.matrix_blocks.specs.Layouts.{layoutIn};
 ghost use Rattle.pair_frames.specs.Schemes.{fileLayout, Fits};
 use matrix_blocks::layouts::Layout;
 use matrix_model::sizes::LETTER;
@@ -9,7 +9,7 @@ use pair_frames::sizes::Sizes;
 // A row is as long as an inner trit vector, and each digit has one.
 pub fn file_layout(sizes: Sizes) -> Layout
     requires { ⌜ Fits sizes ⌝ }
-    ensures { λ r. ⌜ layoutOf r ≡ fileLayout sizes ⌝ }
+    ensures { λ r. ⌜ layoutIn r ≡ fileLayout sizes ⌝ }
 {
     Layout {
         letter: LETTER,

@@ -3,7 +3,7 @@ ghost use mathlib.Core.Path.{_≡_};
 ghost use Prim.Native.Nat.{_*_, _≤_};
 ghost use lib.ListN.{length};
 ghost use Rattle.numbers.specs.Number.{atFront};
-ghost use Rattle.pair_frames.specs.Schemes.{schemeOf, Fits};
+ghost use Rattle.pair_frames.specs.Schemes.{schemeIn, Fits};
 ghost use Rattle.pair_model.specs.Scheme.{files, readingNumber};
 ghost use Rattle.pair_model.specs.Frame.{codeBytes};
 ghost use Rattle.pair_model.specs.Evaluator.{codeOf};
@@ -16,7 +16,7 @@ use pair_frames::sizes::Sizes;
 // The bytes of a matrix file.
 pub fn file_bytes(sizes: Sizes) -> usize
     requires { ⌜ Fits sizes ⌝ }
-    ensures { λ r. ⌜ r ≡ schemeOf sizes .rowsReading .bytes ⌝ }
+    ensures { λ r. ⌜ r ≡ schemeIn sizes .rowsReading .bytes ⌝ }
 {
     file_size(file_layout(sizes))
 }
@@ -24,7 +24,7 @@ pub fn file_bytes(sizes: Sizes) -> usize
 // The number of a matrix file, of any length.
 pub fn file_number(sizes: Sizes, file: &[u8]) -> u32
     requires { ⌜ Fits sizes ⌝ }
-    ensures { λ r. ⌜ r ≡ readingNumber (schemeOf sizes .rowsReading) (files (now (file .entry))) ⌝ }
+    ensures { λ r. ⌜ r ≡ readingNumber (schemeIn sizes .rowsReading) (files (now (file .entry))) ⌝ }
 {
     file_check(file_layout(sizes), file)
 }
@@ -32,10 +32,10 @@ pub fn file_number(sizes: Sizes, file: &[u8]) -> u32
 // Writes the rows of a matrix file times a vector, modulo 3, to the front of `out`. No branch depends on the vector.
 pub fn write_code(sizes: Sizes, file: &[u8], v: &[u8], out: &mut [u8])
     requires { ⌜
-        Fits sizes × (length (now file) ≡ schemeOf sizes .rowsReading .bytes) × (length (now v) ≡ 2 * sizes .«inner_bytes»)
-        × (codeBytes (schemeOf sizes) ≤ length (now out))
+        Fits sizes × (length (now file) ≡ schemeIn sizes .rowsReading .bytes) × (length (now v) ≡ 2 * sizes .«inner_bytes»)
+        × (codeBytes (schemeIn sizes) ≤ length (now out))
         ⌝ }
-    ensures { λ _. ⌜ now (out .exit) ≡ atFront (codeOf (schemeOf sizes) (files (now (file .entry))) (now (v .entry))) (now (out .entry)) ⌝ }
+    ensures { λ _. ⌜ now (out .exit) ≡ atFront (codeOf (schemeIn sizes) (files (now (file .entry))) (now (v .entry))) (now (out .entry)) ⌝ }
 {
     code_of(file_layout(sizes), file, v, out);
 }

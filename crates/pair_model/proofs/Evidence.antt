@@ -13,5 +13,6 @@ pub mod Uneven
 pub mod Wrong
 pub mod WrongMask
 pub mod Examples
+pub mod SetExamples
 pub mod Sample
 pub mod Whole

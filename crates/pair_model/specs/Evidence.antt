@@ -7,16 +7,17 @@ use Rattle.numbers.specs.Number.{_when_, first}
 use Rattle.numbers.specs.Lowest.{Lowest}
 use Rattle.source_model.specs.Disjoint.{sampling}
 use Rattle.source_model.specs.Evidence.{DrawEvidence}
-use Rattle.pair_model.specs.Scheme.{Side, other}
-use Rattle.pair_model.specs.Tape.{Accepted}
+use Rattle.pair_model.specs.Scheme.{Scheme, Side, other}
+use Rattle.pair_model.specs.Tape.{tapeBytes, Accepted}
 use Rattle.pair_model.specs.Unit.{idleStage, doneStage, takeDeal, takeOpen, step}
-use Rattle.pair_model.specs.Base.{base}
-use Rattle.pair_model.specs.Sampler.{sampled, nextPair, sampleNumber}
+use Rattle.pair_model.specs.Base.{Format, circulantScheme, base}
+use Rattle.pair_model.specs.Sampler.{copiedBytes, wantedTrits, sampled, nextPair, sampleNumber}
 use Rattle.pair_model.specs.Dealer.{TakesAccepted}
 use Rattle.pair_model.specs.Run.{Protocol, protocol, Inputs, WellFormed, Run, runOf, Entry, SharedEntry, same, start, final, ListOf, firstOf, secondOf, Comparable}
 use Rattle.pair_model.specs.Theorem.{SameForFixed, Hides, Done, shareFrame, ownCode, Demand3}
 use Rattle.pair_model.specs.Lowest.{LowestNumbers}
 use Rattle.pair_model.specs.Examples.{TwelveExamples}
+use Rattle.pair_model.specs.SetExamples.{SetExamples}
 use Rattle.pair_model.specs.Sample.{SampleCompared}
 use Rattle.pair_model.specs.Leaky.{small, stepBy, bareKey, withoutZ, innerMaskDealt, unevenMaskDealt, otherKeyShown, emptyMask, halfForMask, copiedMask, refusesAll, secondDeal, tellingNumber, clearingRefusal, takesAt, refusedBeginning}
 
@@ -34,9 +35,23 @@ pub record HidesShare (P : Protocol) (fixed : Side) (a b : Inputs) : Type 0 wher
       Comparable P fixed run₁ run₂ (start P run₁) (start P run₂) es → Done P c₁ → Done P c₂ → ownCode P run₁ ≡ ownCode P run₂
       → shareFrame P c₁ (other fixed) ≡ shareFrame P c₂ (other fixed)
 
+-- what is proved of a scheme besides its numbers
+pub record Laws (S : Scheme) : Type 0 where
+  -- evaluator, units and join: the theorem
+  pub demand3 : Demand3 (protocol S)
+  -- the dealer takes exactly the accepted tapes, and the sampler makes such tapes
+  pub dealer : TakesAccepted S
+  pub sampler : (source : List ℕ) (s : ℕ) → Accepted S (sampled S source s)
+  -- it is the sampling that the theorem on draws speaks of
+  pub samplerIs : (source : List ℕ) (s : ℕ) → let A = sampling (copiedBytes S) (wantedTrits S) (S .innerBytes) in
+      (sampleNumber S source s (tapeBytes S) ≡ A .number source s) × (sampled S source s ≡ A .tape source s) × (nextPair S source s ≡ A .next source s)
+  -- the code tells no more than itself
+  pub share : (fixed : Side) (a b : Inputs) → WellFormed S a → WellFormed S b → SameForFixed fixed a b → HidesShare (protocol S) fixed a b
+
 pub record Evidence : Type 0 where
-  -- the definitions say what document 01 says
+  -- the definitions say what document 01 says, and what W-202 says of the sets
   pub examples : TwelveExamples
+  pub sets : SetExamples
   -- each call returns the lowest number, which the first of a list need not be
   pub lowest : LowestNumbers
   pub falling : ¬ Lowest (9 when true ∷ 8 when true ∷ []) (first (9 when true ∷ 8 when true ∷ []))
@@ -44,16 +59,10 @@ pub record Evidence : Type 0 where
   pub sample : SampleCompared
   pub selfComparable : (fixed : Side) (run : Run) (es : List Entry) → let P = protocol base in
       ListOf P run (start P run) es → Comparable P fixed run run (start P run) (start P run) (shared es)
-  -- the dealer takes exactly the accepted tapes, and the sampler makes such tapes
-  pub dealer : TakesAccepted base
-  pub sampler : (source : List ℕ) (s : ℕ) → Accepted base (sampled base source s)
-  -- it is the sampling that the theorem on draws speaks of, at document 01's numbers
-  pub samplerIs : (source : List ℕ) (s : ℕ) → let A = sampling 192 256 32 in
-      (sampleNumber base source s 256 ≡ A .number source s) × (sampled base source s ≡ A .tape source s) × (nextPair base source s ≡ A .next source s)
+  -- the laws stand at every number of bytes and digits, whatever a matrix file is; the three sets are instances
+  pub anySize : (set n t : ℕ) (F : Format) → Laws (circulantScheme set n t F)
   -- draws follow one another, and samplings that read a pair twice do not pass
   pub draws : DrawEvidence
-  -- the code tells no more than itself
-  pub share : (fixed : Side) (a b : Inputs) → WellFormed base a → WellFormed base b → SameForFixed fixed a b → HidesShare (protocol base) fixed a b
   -- leaky and wrong protocols do not pass, in a scheme in which the protocol does; a step by the unit's own ways is the unit's
   pub passes : Demand3 (protocol small)
   pub ownStep : stepBy small (takeDeal small) (takeOpen small) ≡ step small

@@ -42,4 +42,4 @@ pub record TwelveExamples : Type 0 where
   pub example10 : (front : List ℕ) → length front ≡ 192 → sampleNumber base (bytesE4 front 85) 0 256 ≡ 13
   pub example11 : check (1 ∷ zeros 509) ≡ 1 ∷ 0 ∷ []
   -- its check holds, and a file of such blocks gets 9
-  pub example12 : (checkHolds (zeros 512) ≡ true) × (checkNumber (zeros fileBytes) ≡ 9)
+  pub example12 : (checkHolds (zeros 512) ≡ true) × (checkNumber 1 (zeros fileBytes) ≡ 9)

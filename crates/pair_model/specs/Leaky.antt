@@ -4,8 +4,8 @@ use mathlib.Core.List.{List, [], _∷_}
 use mathlib.Core.Bool.{cond, _&&_}
 use lib.Dec.{eqb}
 use Rattle.linear_model.specs.Bits.{bit, addBits}
-use Rattle.pair_model.specs.Scheme.{Files, Scheme, productWith, Side, side0, side1, other, field, concat}
-use Rattle.pair_model.specs.Base.{matrixReading, circulantScheme}
+use Rattle.pair_model.specs.Scheme.{Files, Scheme, productWith, side0, side1, other, field, concat}
+use Rattle.pair_model.specs.Base.{circulantScheme}
 use Rattle.pair_model.specs.Tape.{K̃, x̃, w̃, z0, r0, dealLayout}
 use Rattle.pair_model.specs.Frame.{dealKind, openKind, maskKind, frame, kindOf, bodyOf, openLayout}
 use Rattle.pair_model.specs.Unit.{State, state, Stepped, refused, nothing, K̂, x̂, withDeal, withMask, addIfSide0, stepNumber, takeDeal, takeOpen, takeMask, step}
@@ -14,7 +14,7 @@ use Rattle.pair_model.specs.Run.{Protocol, protocol}
 
 -- a small scheme, in which they are refuted: one byte of key, label and inner vector, one digit, a file of one row
 abbrev pub small : Scheme
-small = circulantScheme 1 1 (matrixReading 2 (λ file. [])) (λ file. file)
+small = circulantScheme 1 1 1 (record { bytes = 2; faults = λ file. []; rows = λ file. file })
 
 -- a string with its bit 0 cleared
 abbrev pub withoutBit0 : List ℕ → List ℕ
@@ -95,7 +95,7 @@ module _ (S : Scheme) where
   abbrev pub withKeyMask : List ℕ → State → State
   withKeyMask keyMask u =
       let s = u .secrets in
-      state (u .parameters) (u .stage)
+      state (u .set) (u .parameters) (u .stage)
       (record { key = s .key; label = s .label; keyMask = keyMask; labelMask = s .labelMask; z = s .z; r = s .r; ownMask = s .ownMask })
 
   abbrev pub otherKeyShown : Protocol
@@ -152,7 +152,7 @@ module _ (S : Scheme) where
   unfoldable pub clearedIfRefused : State → List ℕ → Files → ℕ → Stepped
   clearedIfRefused u f lent outputLength =
       let s = step S u f lent outputLength in
-      cond (eqb (s .result) 0) s (refused (s .result) (state (u .parameters) (u .stage) (nothing S)))
+      cond (eqb (s .result) 0) s (refused (s .result) (state (u .set) (u .parameters) (u .stage) (nothing S)))
 
   abbrev pub clearingRefusal : Protocol
   clearingRefusal = withStep clearedIfRefused
@@ -162,7 +162,7 @@ module _ (S : Scheme) where
   unfoldable pub takenAt : ℕ → State → List ℕ → Files → ℕ → Stepped
   takenAt stage u f lent outputLength =
       cond (eqb (u .stage) stage)
-      (record { result = 0; written = []; next = state (u .parameters) (suc stage) (u .secrets) })
+      (record { result = 0; written = []; next = state (u .set) (u .parameters) (suc stage) (u .secrets) })
       (step S u f lent outputLength)
 
   abbrev pub takesAt : ℕ → Protocol

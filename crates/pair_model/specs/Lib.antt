@@ -16,6 +16,7 @@ pub mod Calls
 pub mod WholeRun
 pub mod Lowest
 pub mod Examples
+pub mod SetExamples
 pub mod Sample
 pub mod Leaky
 pub mod Evidence

@@ -47,6 +47,8 @@ readingNumber reading lent = first (1 when badLength reading lent ∷ faultsIn r
 -- ---- schemes
 
 pub record Scheme : Type 0 where
+  -- the set that a unit's state keeps
+  pub set : ℕ
   -- bytes of a key and of a label
   pub keyBytes : ℕ
   -- bytes of the inner vector

@@ -7,11 +7,13 @@ use lib.ListN.{length}
 use Rattle.linear_model.specs.Bits.{zeros, addBits}
 use Rattle.linear_model.specs.Trits.{fitTrits, innerShare}
 use Rattle.numbers.specs.Number.{Condition, _when_, first, onlyIf}
+use Rattle.numbers.specs.Sets.{numberIn}
 use Rattle.pair_model.specs.Scheme.{Files, Reading, readsNothing, badLength, faultsIn, Scheme, productWith, field, concat}
 use Rattle.pair_model.specs.Tape.{dealLayout}
 use Rattle.pair_model.specs.Frame.{Parameters, parameters, dealKind, openKind, maskKind, shareKind, frame, kindOf, bodyOf, openLayout, frameBytes}
 use Rattle.pair_model.specs.Header.{readHeader, refusedWith, kindRead, sideRead, sessionRead}
 use Rattle.pair_model.specs.Evaluator.{codeOf}
+use Rattle.pair_model.specs.Base.{schemeOf, base}
 
 -- ---- states: the stage is the kind of frame that the unit waits for, 4 where it is done and 0 where it is idle
 
@@ -32,12 +34,13 @@ pub record Secrets : Type 0 where
   pub ownMask : List ℕ
 
 pub record State : Type 0 where
+  pub set : ℕ
   pub parameters : Parameters
   pub stage : ℕ
   pub secrets : Secrets
 
-abbrev pub state : Parameters → ℕ → Secrets → State
-state t stage s = record { parameters = t; stage = stage; secrets = s }
+abbrev pub state : ℕ → Parameters → ℕ → Secrets → State
+state set t stage s = record { set = set; parameters = t; stage = stage; secrets = s }
 
 -- what a beginning returns and gives
 pub record Beginning : Type 0 where
@@ -78,14 +81,17 @@ module _ (S : Scheme) where
 
   -- waiting for a deal
   abbrev pub begun : Parameters → List ℕ → List ℕ → State
-  begun t key label = state t dealKind (halves key label)
+  begun t key label = state (S .set) t dealKind (halves key label)
 
-  abbrev pub idle : State
-  idle = state (parameters 0 0) idleStage nothing
+  -- done, where the unit keeps its set
+  abbrev pub done : ℕ → Parameters → State
+  done set t = state set t doneStage nothing
 
-  abbrev pub done : Parameters → State
-  done t = state t doneStage nothing
+-- idle, of set 1 whatever the unit was
+abbrev pub idle : State
+idle = state 1 (parameters 0 0) idleStage (nothing base)
 
+module _ (S : Scheme) where
   -- ---- the beginning
 
   unfoldable pub beginConditions : Parameters → List ℕ → List ℕ → List Condition
@@ -99,7 +105,7 @@ module _ (S : Scheme) where
   unfoldable pub begin : Parameters → List ℕ → List ℕ → Beginning
   begin t key label =
       let number = beginNumber t key label in
-      record { result = number; next = cond (eqb number 0) (begun t key label) idle }
+      record { result = number; next = cond (eqb number 0) (begun S t key label) idle }
 
   -- ---- what a unit computes
 
@@ -163,7 +169,7 @@ module _ (S : Scheme) where
   -- the state with a deal taken
   abbrev pub withDeal : State → List ℕ → State
   withDeal u body =
-      state (u .parameters) openKind (record {
+      state (u .set) (u .parameters) openKind (record {
         key = u .secrets .key;
         label = u .secrets .label;
         keyMask = field (dealLayout S) 0 body;
@@ -196,7 +202,7 @@ module _ (S : Scheme) where
   -- the state with its own mask ŵi made
   abbrev pub withMask : State → List ℕ → State
   withMask u ŵi =
-      state (u .parameters) maskKind (record {
+      state (u .set) (u .parameters) maskKind (record {
         key = u .secrets .key;
         label = u .secrets .label;
         keyMask = u .secrets .keyMask;
@@ -218,7 +224,7 @@ module _ (S : Scheme) where
       record {
         result = 0;
         written = frame shareKind (u .parameters) (shareOf lent (u .parameters .side) (addBits (S .innerBytes) (u .secrets .ownMask) body) (u .secrets .r));
-        next = done (u .parameters);
+        next = done S (u .set) (u .parameters);
       }
 
   -- by what the unit waits for
@@ -230,3 +236,15 @@ module _ (S : Scheme) where
   step u f lent outputLength =
       let number = stepNumber (u .parameters) (u .stage) f lent outputLength in
       cond (eqb number 0) (advance u (bodyOf f) lent) (refused number u)
+
+-- ---- of a set
+
+-- the beginning of a unit of a set
+unfoldable pub unitBegin : ℕ → Parameters → List ℕ → List ℕ → Beginning
+unitBegin set t key label =
+    let number = numberIn set (beginConditions (schemeOf set) t key label) in
+    record { result = number; next = cond (eqb number 0) (begun (schemeOf set) t key label) idle }
+
+-- and its step, in the scheme that its set names
+abbrev pub unitStep : State → List ℕ → Files → ℕ → Stepped
+unitStep u f lent outputLength = step (schemeOf (u .set)) u f lent outputLength

@@ -3,28 +3,32 @@ ghost use mathlib.Core.Path.{_≡_};
 ghost use lib.ListN.{length};
 ghost use Rattle.numbers.specs.Number.{output, reported};
 ghost use Rattle.source_model.specs.Disjoint.{DisjointDraws};
-ghost use Rattle.pair_frames.specs.Schemes.{schemeOf, Fits};
-ghost use Rattle.pair_model.specs.Base.{base};
-ghost use Rattle.pair_model.specs.Sampler.{sampled, nextPair, sampleNumber};
+ghost use Rattle.pair_frames.specs.Schemes.{schemeIn, Fits};
+ghost use Rattle.numbers.specs.Sets.{numberIn};
+ghost use Rattle.pair_model.specs.Base.{schemeOf};
+ghost use Rattle.pair_model.specs.Sampler.{sampled, nextPair, sampleConditions, sampleNumber};
 use crate::packing::pack;
 use numbers::table::DONE;
+use numbers::table::NO_SET;
 use numbers::table::WRONG_LENGTH;
-use pair_frames::sizes::BASE;
-use pair_frames::sizes::INNER_ROOM;
+use pair_frames::sizes::SET_1;
+use pair_frames::sizes::SET_2;
+use pair_frames::sizes::SET_3;
+use pair_frames::sizes::STRING_ROOM;
 use pair_frames::sizes::Sizes;
 use source::drawing::Draw;
 use source::drawing::draw_from;
 use source::drawing::refused;
 
 // The trits of the longest inner vector.
-const MOST_TRITS: usize = 8 * INNER_ROOM;
+const MOST_TRITS: usize = 8 * STRING_ROOM;
 
 // A tape of any sizes: what stands before r0 is copied from pair `start` on, and the trits of r0 are drawn from the pairs after.
 pub fn sample_sized(sizes: Sizes, start: u64, source: &[u8], out: &mut [u8]) -> Draw
     requires { ⌜ Fits sizes ⌝ }
-    ensures result { λ r. ⌜ r .result ≡ sampleNumber (schemeOf sizes) (now (source .entry)) start (length (now (out .entry))) ⌝ }
-    ensures next { λ r. ⌜ r .next ≡ reported (r .result) (nextPair (schemeOf sizes) (now (source .entry)) start) ⌝ }
-    ensures output { λ r. ⌜ now (out .exit) ≡ output (r .result) (sampled (schemeOf sizes) (now (source .entry)) start) (now (out .entry)) ⌝ }
+    ensures result { λ r. ⌜ r .result ≡ sampleNumber (schemeIn sizes) (now (source .entry)) start (length (now (out .entry))) ⌝ }
+    ensures next { λ r. ⌜ r .next ≡ reported (r .result) (nextPair (schemeIn sizes) (now (source .entry)) start) ⌝ }
+    ensures output { λ r. ⌜ now (out .exit) ≡ output (r .result) (sampled (schemeIn sizes) (now (source .entry)) start) (now (out .entry)) ⌝ }
 {
     let key_bytes = sizes.key_bytes;
     let inner_bytes = sizes.inner_bytes;
@@ -42,13 +46,17 @@ pub fn sample_sized(sizes: Sizes, start: u64, source: &[u8], out: &mut [u8]) -> 
     d
 }
 
-// A tape from source bytes: 192 are copied, pair by pair, and the trits of r0 drawn from the pairs after. Draws that follow one another share
-// no pair.
-pub fn sample(start: u64, source: &[u8], out: &mut [u8]) -> Draw
-    ensures result { λ r. ⌜ r .result ≡ sampleNumber base (now (source .entry)) start (length (now (out .entry))) ⌝ }
-    ensures next { λ r. ⌜ r .next ≡ reported (r .result) (nextPair base (now (source .entry)) start) ⌝ }
-    ensures output { λ r. ⌜ now (out .exit) ≡ output (r .result) (sampled base (now (source .entry)) start) (now (out .entry)) ⌝ }
+// A tape of a set. Draws that follow one another share no pair, of whatever sets they are.
+pub fn sample(set: u32, start: u64, source: &[u8], out: &mut [u8]) -> Draw
+    ensures result { λ r. ⌜ r .result ≡ numberIn set (sampleConditions (schemeOf set) (now (source .entry)) start (length (now (out .entry)))) ⌝ }
+    ensures next { λ r. ⌜ r .next ≡ reported (r .result) (nextPair (schemeOf set) (now (source .entry)) start) ⌝ }
+    ensures output { λ r. ⌜ now (out .exit) ≡ output (r .result) (sampled (schemeOf set) (now (source .entry)) start) (now (out .entry)) ⌝ }
     ensures disjoint { λ _. ⌜ DisjointDraws ⌝ }
 {
-    sample_sized(BASE, start, source, out)
+    match set {
+        1 => sample_sized(SET_1, start, source, out),
+        2 => sample_sized(SET_2, start, source, out),
+        3 => sample_sized(SET_3, start, source, out),
+        _ => refused(NO_SET),
+    }
 }

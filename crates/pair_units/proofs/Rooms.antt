@@ -1,62 +1,64 @@
--- The arrays of a unit's state: their lengths, and the one law that joins struct and state.
-use mathlib.Core.Path.{_≡_, ap, _∙_}
-use mathlib.Core.List.{List, _++_, append-nil}
+-- The arrays of a unit's state: their lengths, and the state of a struct that has halves alone.
+use mathlib.Core.Path.{_≡_}
+use mathlib.Core.List.{List}
 use Prim.Native.Nat.{ℕ, _*_}
-use native.Mathlib.Omega.{arith}
 use borrow.Author.Needs.{length-unmapped}
 use denote.Laws.{Is}
 use denote.Struct.Declared.{row}
 use mir.Val.{Val}
-use lib.ListN.{length, take, drop, drop-of-length-le}
-use lib.Seq.{take-all}
+use lib.ListN.{length}
 use Rattle.linear_model.specs.Bits.{zeros}
 use Rattle.linear_model.proofs.Strings.{length-zeros}
-use Rattle.pair_frames.specs.Schemes.{keyRoom, innerRoom}
+use Rattle.pair_frames.specs.declared.sizes.Sizes.{Sizes}
+use Rattle.pair_frames.specs.Schemes.{schemeIn}
+use Rattle.pair_model.specs.Frame.{Parameters}
+use Rattle.pair_model.specs.Unit.{state, halves}
+use Rattle.pair_model.specs.StateSlice.{stringRoom, tritsRoom}
+use Rattle.pair_model.proofs.Internal.Encodings.{room-front}
 use Rattle.pair_units.specs.declared.state.UnitState.{UnitState}
-use Rattle.pair_units.specs.Units.{stateOf, inRoom, unitOf}
+use Rattle.pair_units.specs.Units.{stateAt, unitOf}
 use Rattle.pair_units.proofs.state.UnitState as Struct
 
 -- each array of a state has its room's length
 pub record Full (u : UnitState) : Type 0 where
-  pub key : length (u .key) ≡ keyRoom
-  pub label : length (u .label) ≡ keyRoom
-  pub keyMask : length (u .«key_mask») ≡ keyRoom
-  pub labelMask : length (u .«label_mask») ≡ keyRoom
-  pub z : length (u .z) ≡ innerRoom
-  pub r : length (u .r) ≡ 2 * innerRoom
-  pub ownMask : length (u .«own_mask») ≡ innerRoom
+  pub key : length (u .key) ≡ stringRoom
+  pub label : length (u .label) ≡ stringRoom
+  pub keyMask : length (u .«key_mask») ≡ stringRoom
+  pub labelMask : length (u .«label_mask») ≡ stringRoom
+  pub z : length (u .z) ≡ stringRoom
+  pub r : length (u .r) ≡ tritsRoom
+  pub ownMask : length (u .«own_mask») ≡ stringRoom
 
 -- which is known of every struct that is passed or returned
 pub full : (u : UnitState) (vs : List Val) → Is (row Struct.the-type) u vs → Full u
 full u vs p =
-    let fields = p .1 .1 .1 .1 in
+    let fields = p .1 .1 .1 .1 .1 in
     record {
-      key = length-unmapped ℕ (u .key) keyRoom (fields .0 .1 .0 .1);
-      label = length-unmapped ℕ (u .label) keyRoom (fields .1 .0 .1 .0 .1);
-      keyMask = length-unmapped ℕ (u .«key_mask») keyRoom (fields .1 .1 .0 .1 .0 .1);
-      labelMask = length-unmapped ℕ (u .«label_mask») keyRoom (fields .1 .1 .1 .0 .1 .0 .1);
-      z = length-unmapped ℕ (u .z) innerRoom (fields .1 .1 .1 .1 .0 .1 .0 .1);
-      r = length-unmapped ℕ (u .r) (2 * innerRoom) (fields .1 .1 .1 .1 .1 .0 .1 .0 .1);
-      ownMask = length-unmapped ℕ (u .«own_mask») innerRoom (fields .1 .1 .1 .1 .1 .1 .0 .1 .0 .1);
+      key = length-unmapped ℕ (u .key) stringRoom (fields .0 .1 .0 .1);
+      label = length-unmapped ℕ (u .label) stringRoom (fields .1 .0 .1 .0 .1);
+      keyMask = length-unmapped ℕ (u .«key_mask») stringRoom (fields .1 .1 .0 .1 .0 .1);
+      labelMask = length-unmapped ℕ (u .«label_mask») stringRoom (fields .1 .1 .1 .0 .1 .0 .1);
+      z = length-unmapped ℕ (u .z) stringRoom (fields .1 .1 .1 .1 .0 .1 .0 .1);
+      r = length-unmapped ℕ (u .r) tritsRoom (fields .1 .1 .1 .1 .1 .0 .1 .0 .1);
+      ownMask = length-unmapped ℕ (u .«own_mask») stringRoom (fields .1 .1 .1 .1 .1 .1 .0 .1 .0 .1);
     }
 
--- a string that fills its room is read and put back
-room-full : (room : ℕ) (s : List ℕ) → length s ≡ room → inRoom room (take room s) ≡ s
-room-full room s e =
-    let t : take room s ≡ s = take-all room s (omega arith) in
-    (λ i. t i ++ drop (length (t i)) (zeros room)) ∙ ap (λ (x : List ℕ). s ++ x) (drop-of-length-le (zeros room) {i = length s} (omega (arith, length-zeros room))) ∙ append-nil s
-
--- a struct whose strings fill their rooms, as at the sizes of document 01, is the one that its state becomes
-pub unit-back : (u : UnitState) → Full u → unitOf (stateOf u) ≡ u
-unit-back u f =
-    λ i. record {
-      parameters = u .parameters;
-      stage = u .stage;
-      key = room-full keyRoom (u .key) (f .key) i;
-      label = room-full keyRoom (u .label) (f .label) i;
-      «key_mask» = room-full keyRoom (u .«key_mask») (f .keyMask) i;
-      «label_mask» = room-full keyRoom (u .«label_mask») (f .labelMask) i;
-      z = room-full innerRoom (u .z) (f .z) i;
-      r = room-full (2 * innerRoom) (u .r) (f .r) i;
-      «own_mask» = room-full innerRoom (u .«own_mask») (f .ownMask) i;
-    }
+-- the struct of halves alone stands for them
+pub halves-read : (z : Sizes) (t : Parameters) (stage : ℕ) (key label : List ℕ) → length key ≡ z .«key_bytes» → length label ≡ z .«key_bytes»
+    → let s = state (z .set) t stage (halves (schemeIn z) key label) in stateAt z (unitOf s) ≡ s
+halves-read z t stage key label k l =
+    let n = z .«key_bytes» in
+    let m = z .«inner_bytes» in
+    let mask = room-front stringRoom n (zeros n) (length-zeros n) in
+    let inner = room-front stringRoom m (zeros m) (length-zeros m) in
+    let trits = room-front tritsRoom (2 * m) (zeros (2 * m)) (length-zeros (2 * m)) in
+    λ i. state (z .set) t stage
+    (record {
+      key = room-front stringRoom n key k i;
+      label = room-front stringRoom n label l i;
+      keyMask = mask i;
+      labelMask = mask i;
+      z = inner i;
+      r = trits i;
+      ownMask = inner i;
+    })

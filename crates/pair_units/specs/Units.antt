@@ -1,13 +1,12 @@
 -- What the struct of a unit stands for, and which struct a state becomes.
-use Prim.Native.Nat.{ℕ, _*_}
-use mathlib.Core.List.{List}
+use Prim.Native.Nat.{_*_}
 use lib.ListN.{take}
-use Rattle.linear_model.specs.Bits.{zeros}
-use Rattle.numbers.specs.Number.{atFront}
+use Rattle.numbers.specs.Sets.{counted}
 use Rattle.pair_frames.specs.declared.sizes.Sizes.{Sizes}
 use Rattle.pair_frames.specs.Headers.{parametersIn}
-use Rattle.pair_frames.specs.Schemes.{baseSizes, keyRoom, innerRoom}
+use Rattle.pair_frames.specs.Schemes.{setSizes}
 use Rattle.pair_model.specs.Unit.{State, state}
+use Rattle.pair_model.specs.StateSlice.{stringRoom, tritsRoom, inRoom}
 use Rattle.pair_units.specs.declared.state.UnitState.{UnitState}
 
 -- the state that a struct stands for at these sizes: the front of each room
@@ -15,7 +14,7 @@ abbrev pub stateAt : Sizes → UnitState → State
 stateAt z u =
     let n = z .«key_bytes» in
     let m = z .«inner_bytes» in
-    state (parametersIn (u .parameters)) (u .stage)
+    state (z .set) (parametersIn (u .parameters)) (u .stage)
     (record {
       key = take n (u .key);
       label = take n (u .label);
@@ -26,24 +25,22 @@ stateAt z u =
       ownMask = take m (u .«own_mask»);
     })
 
--- at the sizes of document 01
+-- the state that a struct stands for: of its set, where a number that is none counts as 1
 abbrev pub stateOf : UnitState → State
-stateOf u = stateAt baseSizes u
+stateOf u = stateAt (setSizes (counted (u .set))) u
 
--- a string in the front of a room, and zeros behind it
-abbrev pub inRoom : ℕ → List ℕ → List ℕ
-inRoom room s = atFront s (zeros room)
-
+-- the struct that a state becomes: each string in its room
 abbrev pub unitOf : State → UnitState
 unitOf s =
     record {
+      set = s .set;
       parameters = record { side = s .parameters .side; session = s .parameters .shared .session };
       stage = s .stage;
-      key = inRoom keyRoom (s .secrets .key);
-      label = inRoom keyRoom (s .secrets .label);
-      «key_mask» = inRoom keyRoom (s .secrets .keyMask);
-      «label_mask» = inRoom keyRoom (s .secrets .labelMask);
-      z = inRoom innerRoom (s .secrets .z);
-      r = inRoom (2 * innerRoom) (s .secrets .r);
-      «own_mask» = inRoom innerRoom (s .secrets .ownMask);
+      key = inRoom stringRoom (s .secrets .key);
+      label = inRoom stringRoom (s .secrets .label);
+      «key_mask» = inRoom stringRoom (s .secrets .keyMask);
+      «label_mask» = inRoom stringRoom (s .secrets .labelMask);
+      z = inRoom stringRoom (s .secrets .z);
+      r = inRoom tritsRoom (s .secrets .r);
+      «own_mask» = inRoom stringRoom (s .secrets .ownMask);
     }

@@ -4,11 +4,11 @@ ghost use Prim.Native.Nat.{_≤_};
 ghost use lib.ListN.{length};
 ghost use Rattle.numbers.specs.Number.{atFront};
 ghost use Rattle.pair_frames.specs.Headers.{parametersIn};
-ghost use Rattle.pair_frames.specs.Schemes.{schemeOf, Fits};
+ghost use Rattle.pair_frames.specs.Schemes.{schemeIn, Fits};
 ghost use Rattle.pair_model.specs.Scheme.{files, noFiles};
 ghost use Rattle.pair_model.specs.Frame.{dealKind, openKind, maskKind, shareKind, frameBytes, bodyOf};
 ghost use Rattle.pair_model.specs.Unit.{takeDeal, takeOpen, takeMask, advance, stepNumber};
-ghost use Rattle.pair_units.specs.Units.{stateAt};
+ghost use Rattle.pair_units.specs.Units.{stateAt, unitOf};
 use crate::begin::cleared;
 use crate::state::UnitState;
 use pair_bodies::masks::write_own_mask;
@@ -25,17 +25,17 @@ use pair_frames::frame::SHARE;
 use pair_frames::frame::frame_bytes;
 use pair_frames::frame::write_frame;
 use pair_frames::sizes::HEADER_BYTES;
-use pair_frames::sizes::INNER_ROOM;
+use pair_frames::sizes::STRING_ROOM;
 use pair_frames::sizes::Sizes;
 
 // It takes a deal, and writes its open frame.
 pub fn take_deal(sizes: Sizes, u: UnitState, f: &[u8], out: &mut [u8]) -> UnitState
     requires { ⌜
-        Fits sizes × (length (now f) ≡ frameBytes (schemeOf sizes) dealKind) × (frameBytes (schemeOf sizes) openKind ≤ length (now out))
+        Fits sizes × (length (now f) ≡ frameBytes (schemeIn sizes) dealKind) × (frameBytes (schemeIn sizes) openKind ≤ length (now out))
         ⌝ }
-    ensures next { λ r. ⌜ stateAt sizes r ≡ takeDeal (schemeOf sizes) (stateAt sizes u) (bodyOf (now (f .entry))) .next ⌝ }
+    ensures next { λ r. ⌜ stateAt sizes r ≡ takeDeal (schemeIn sizes) (stateAt sizes u) (bodyOf (now (f .entry))) .next ⌝ }
     ensures output { λ _. ⌜
-        now (out .exit) ≡ atFront (takeDeal (schemeOf sizes) (stateAt sizes u) (bodyOf (now (f .entry))) .written) (now (out .entry))
+        now (out .exit) ≡ atFront (takeDeal (schemeIn sizes) (stateAt sizes u) (bodyOf (now (f .entry))) .written) (now (out .entry))
         ⌝ }
 {
     let n = sizes.key_bytes;
@@ -60,6 +60,7 @@ pub fn take_deal(sizes: Sizes, u: UnitState, f: &[u8], out: &mut [u8]) -> UnitSt
     let z = d.z;
     let r = d.r;
     UnitState {
+        set: sizes.set,
         parameters: parameters,
         stage: WAITS_FOR_OPEN,
         key: key,
@@ -68,18 +69,18 @@ pub fn take_deal(sizes: Sizes, u: UnitState, f: &[u8], out: &mut [u8]) -> UnitSt
         label_mask: label_mask,
         z: z,
         r: r,
-        own_mask: [0u8; INNER_ROOM],
+        own_mask: [0u8; STRING_ROOM],
     }
 }
 
 // It takes the other's open frame, and writes its mask frame.
 fn take_open(sizes: Sizes, mut u: UnitState, f: &[u8], out: &mut [u8]) -> UnitState
     requires { ⌜
-        Fits sizes × (length (now f) ≡ frameBytes (schemeOf sizes) openKind) × (frameBytes (schemeOf sizes) openKind ≤ length (now out))
+        Fits sizes × (length (now f) ≡ frameBytes (schemeIn sizes) openKind) × (frameBytes (schemeIn sizes) openKind ≤ length (now out))
         ⌝ }
-    ensures next { λ r. ⌜ stateAt sizes r ≡ takeOpen (schemeOf sizes) (stateAt sizes u) (bodyOf (now (f .entry))) noFiles .next ⌝ }
+    ensures next { λ r. ⌜ stateAt sizes r ≡ takeOpen (schemeIn sizes) (stateAt sizes u) (bodyOf (now (f .entry))) noFiles .next ⌝ }
     ensures output { λ _. ⌜
-        now (out .exit) ≡ atFront (takeOpen (schemeOf sizes) (stateAt sizes u) (bodyOf (now (f .entry))) noFiles .written) (now (out .entry))
+        now (out .exit) ≡ atFront (takeOpen (schemeIn sizes) (stateAt sizes u) (bodyOf (now (f .entry))) noFiles .written) (now (out .entry))
         ⌝ }
 {
     let n = sizes.key_bytes;
@@ -90,7 +91,7 @@ fn take_open(sizes: Sizes, mut u: UnitState, f: &[u8], out: &mut [u8]) -> UnitSt
     let key_mask = u.key_mask;
     let label_mask = u.label_mask;
     let z = u.z;
-    let mut own_mask = [0u8; INNER_ROOM];
+    let mut own_mask = [0u8; STRING_ROOM];
     write_own_mask(
         sizes,
         parameters.side,
@@ -111,13 +112,15 @@ fn take_open(sizes: Sizes, mut u: UnitState, f: &[u8], out: &mut [u8]) -> UnitSt
 // It takes the other's mask frame, writes its share frame and is done.
 pub fn take_mask(sizes: Sizes, u: UnitState, f: &[u8], file: &[u8], out: &mut [u8]) -> UnitState
     requires { ⌜
-        Fits sizes × (length (now f) ≡ frameBytes (schemeOf sizes) maskKind) × (frameBytes (schemeOf sizes) shareKind ≤ length (now out))
-        × (length (now file) ≡ schemeOf sizes .rowsReading .bytes)
+        Fits sizes × (length (now f) ≡ frameBytes (schemeIn sizes) maskKind) × (frameBytes (schemeIn sizes) shareKind ≤ length (now out))
+        × (length (now file) ≡ schemeIn sizes .rowsReading .bytes)
         ⌝ }
-    ensures next { λ r. ⌜ stateAt sizes r ≡ takeMask (schemeOf sizes) (stateAt sizes u) (bodyOf (now (f .entry))) (files (now (file .entry))) .next ⌝ }
+    ensures next { λ r. ⌜
+        r ≡ unitOf (takeMask (schemeIn sizes) (stateAt sizes u) (bodyOf (now (f .entry))) (files (now (file .entry))) .next)
+        ⌝ }
     ensures output { λ _. ⌜
         now (out .exit) ≡
-        atFront (takeMask (schemeOf sizes) (stateAt sizes u) (bodyOf (now (f .entry))) (files (now (file .entry))) .written) (now (out .entry))
+        atFront (takeMask (schemeIn sizes) (stateAt sizes u) (bodyOf (now (f .entry))) (files (now (file .entry))) .written) (now (out .entry))
         ⌝ }
 {
     let m = sizes.inner_bytes;
@@ -146,15 +149,15 @@ pub struct Advanced {
 pub fn advance(sizes: Sizes, u: UnitState, f: &[u8], file: &[u8], out: &mut [u8]) -> Advanced
     requires { ⌜
         Fits sizes
-        × (stepNumber (schemeOf sizes) (parametersIn (u .parameters)) (u .stage) (now f) (files (now file)) (length (now out)) ≡ 0)
+        × (stepNumber (schemeIn sizes) (parametersIn (u .parameters)) (u .stage) (now f) (files (now file)) (length (now out)) ≡ 0)
         ⌝ }
     ensures count { λ r. ⌜
-        r .written ≡ length (advance (schemeOf sizes) (stateAt sizes u) (bodyOf (now (f .entry))) (files (now (file .entry))) .written)
+        r .written ≡ length (advance (schemeIn sizes) (stateAt sizes u) (bodyOf (now (f .entry))) (files (now (file .entry))) .written)
         ⌝ }
-    ensures next { λ r. ⌜ stateAt sizes (r .next) ≡ advance (schemeOf sizes) (stateAt sizes u) (bodyOf (now (f .entry))) (files (now (file .entry))) .next ⌝ }
+    ensures next { λ r. ⌜ stateAt sizes (r .next) ≡ advance (schemeIn sizes) (stateAt sizes u) (bodyOf (now (f .entry))) (files (now (file .entry))) .next ⌝ }
     ensures output { λ _. ⌜
         now (out .exit) ≡
-        atFront (advance (schemeOf sizes) (stateAt sizes u) (bodyOf (now (f .entry))) (files (now (file .entry))) .written) (now (out .entry))
+        atFront (advance (schemeIn sizes) (stateAt sizes u) (bodyOf (now (f .entry))) (files (now (file .entry))) .written) (now (out .entry))
         ⌝ }
 {
     let stage = u.stage;

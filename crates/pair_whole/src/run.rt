@@ -11,11 +11,11 @@ ghost use Rattle.pair_model.specs.Unit.{begin, leastOutput, stepNumber, step, t
 ghost use Rattle.pair_model.specs.WholeRun.{inputKey, inputLabel, inputTape, inputFile, runNumber, runCode};
 ghost use Rattle.pair_model.specs.Internal.Exchange.{Sends, RunFits};
 ghost use Rattle.pair_frames.specs.Headers.{parametersIn};
-ghost use Rattle.pair_units.specs.Units.{stateOf};
+ghost use Rattle.pair_frames.specs.Schemes.{setSizes};
+ghost use Rattle.pair_units.specs.Units.{stateAt};
 use numbers::table::DONE;
 use pair_counter::join::add_shares;
 use pair_dealer::dealer::deal;
-use pair_frames::sizes::BASE;
 use pair_frames::sizes::DEAL_FRAME_BYTES;
 use pair_frames::sizes::DEALT_BYTES;
 use pair_frames::sizes::INPUT_BYTES;
@@ -27,6 +27,7 @@ use pair_frames::sizes::INPUT_LABEL_1;
 use pair_frames::sizes::INPUT_TAPE;
 use pair_frames::sizes::MASK_FRAME_BYTES;
 use pair_frames::sizes::OPEN_FRAME_BYTES;
+use pair_frames::sizes::SET_1;
 use pair_frames::sizes::SHARE_FRAME_BYTES;
 use pair_input::input::run_number;
 use pair_units::begin::begin_unit;
@@ -43,10 +44,10 @@ struct Sent {
 // A step at a frame that is accepted, so that it is not judged again.
 fn send(u: UnitState, f: &[u8], file: &[u8]) -> Sent
     requires { ⌜ stepNumber base (parametersIn (u .parameters)) (u .stage) (now f) (files (now file)) (leastOutput base) ≡ 0 ⌝ }
-    ensures { λ r. ⌜ Sends (step base (stateOf u) (now (f .entry)) (files (now (file .entry))) (leastOutput base)) (r .frame) (stateOf (r .next)) ⌝ }
+    ensures { λ r. ⌜ Sends (step base (stateAt (setSizes 1) u) (now (f .entry)) (files (now (file .entry))) (leastOutput base)) (r .frame) (stateAt (setSizes 1) (r .next)) ⌝ }
 {
     let mut frame = [0u8; OPEN_FRAME_BYTES];
-    let a = advance(BASE, u, f, file, &mut frame);
+    let a = advance(SET_1, u, f, file, &mut frame);
     let next = a.next;
     Sent {
         frame: frame,
@@ -85,8 +86,8 @@ fn exchange(b: Round, file: &[u8]) -> Round
         (stepNumber base (parametersIn (b .next0 .parameters)) (b .next0 .stage) (b .frame1) (files (now file)) (leastOutput base) ≡ 0)
         × (stepNumber base (parametersIn (b .next1 .parameters)) (b .next1 .stage) (b .frame0) (files (now file)) (leastOutput base) ≡ 0)
         ⌝ }
-    ensures first { λ r. ⌜ Sends (step base (stateOf (b .next0)) (b .frame1) (files (now (file .entry))) (leastOutput base)) (r .frame0) (stateOf (r .next0)) ⌝ }
-    ensures second { λ r. ⌜ Sends (step base (stateOf (b .next1)) (b .frame0) (files (now (file .entry))) (leastOutput base)) (r .frame1) (stateOf (r .next1)) ⌝ }
+    ensures first { λ r. ⌜ Sends (step base (stateAt (setSizes 1) (b .next0)) (b .frame1) (files (now (file .entry))) (leastOutput base)) (r .frame0) (stateAt (setSizes 1) (r .next0)) ⌝ }
+    ensures second { λ r. ⌜ Sends (step base (stateAt (setSizes 1) (b .next1)) (b .frame0) (files (now (file .entry))) (leastOutput base)) (r .frame1) (stateAt (setSizes 1) (r .next1)) ⌝ }
 {
     let sent0 = b.frame0;
     let sent1 = b.frame1;
@@ -105,10 +106,10 @@ fn start(side: u32, key: &[u8], label: &[u8], f: &[u8], file: &[u8]) -> Sent
         ⌝ }
     ensures { λ r. ⌜
         Sends (step base (begin base (parameters side 1) (now (key .entry)) (now (label .entry)) .next) (now (f .entry)) (files (now (file .entry))) (leastOutput base))
-        (r .frame) (stateOf (r .next))
+        (r .frame) (stateAt (setSizes 1) (r .next))
         ⌝ }
 {
-    let b = begin_unit(BASE, side, 1, key, label);
+    let b = begin_unit(SET_1, side, 1, key, label);
     let u = b.next;
     send(u, f, file)
 }
@@ -120,17 +121,17 @@ fn first_round(input: &[u8]) -> Round
         Sends
         (step base (begin base (parameters 0 1) (inputKey base (now (input .entry)) side0) (inputLabel base (now (input .entry)) side0) .next)
         (dealFrame base (sharedParameters 1) noFiles (inputTape base (now (input .entry))) side0) (files (inputFile base (now (input .entry)))) (leastOutput base))
-        (r .frame0) (stateOf (r .next0))
+        (r .frame0) (stateAt (setSizes 1) (r .next0))
         ⌝ }
     ensures second { λ r. ⌜
         Sends
         (step base (begin base (parameters 1 1) (inputKey base (now (input .entry)) side1) (inputLabel base (now (input .entry)) side1) .next)
         (dealFrame base (sharedParameters 1) noFiles (inputTape base (now (input .entry))) side1) (files (inputFile base (now (input .entry)))) (leastOutput base))
-        (r .frame1) (stateOf (r .next1))
+        (r .frame1) (stateAt (setSizes 1) (r .next1))
         ⌝ }
 {
     let mut dealt = [0u8; DEALT_BYTES];
-    deal(1, &input[INPUT_TAPE..INPUT_FILE], &mut dealt);
+    deal(1, 1, &input[INPUT_TAPE..INPUT_FILE], &mut dealt);
     let file = &input[INPUT_FILE..INPUT_BYTES];
     let first = start(
         0,
@@ -152,10 +153,10 @@ fn first_round(input: &[u8]) -> Round
 // A unit's share frame: what its step writes at the mask frame in the front of what the other has sent.
 fn share_frame(u: UnitState, sent: [u8; OPEN_FRAME_BYTES], file: &[u8]) -> [u8; SHARE_FRAME_BYTES]
     requires { ⌜ length (now file) ≡ base .rowsReading .bytes ⌝ }
-    ensures { λ r. ⌜ r ≡ takeMask base (stateOf u) (bodyOf (take (frameBytes base maskKind) sent)) (files (now (file .entry))) .written ⌝ }
+    ensures { λ r. ⌜ r ≡ takeMask base (stateAt (setSizes 1) u) (bodyOf (take (frameBytes base maskKind) sent)) (files (now (file .entry))) .written ⌝ }
 {
     let mut frame = [0u8; SHARE_FRAME_BYTES];
-    take_mask(BASE, u, &sent[0..MASK_FRAME_BYTES], file, &mut frame);
+    take_mask(SET_1, u, &sent[0..MASK_FRAME_BYTES], file, &mut frame);
     frame
 }
 
@@ -173,7 +174,7 @@ fn run_units(input: &[u8], out: &mut [u8])
     let unit1 = two.next1;
     let share0 = share_frame(unit0, mask1, file);
     let share1 = share_frame(unit1, mask0, file);
-    add_shares(BASE, &share0, &share1, out);
+    add_shares(SET_1, &share0, &share1, out);
 }
 
 // The lowest number over all of the input, or 0 and the code, by running the dealer and both units in session 1.

@@ -1,72 +1,124 @@
 //! The dealer: both deal frames, of a tape or of source bytes.
 
 use super::frame::{write_header, HEADER};
-use super::sampler::sample;
-use super::{bits, part, part_mut, trits, words, write_words};
-use crate::reference::dealer::{DEALT_BYTES, TAPE_BYTES};
-use crate::reference::frame::{DEAL, DEAL_BYTES};
-use crate::reference::numbers::{UNFIT_TRIT, WRONG_LENGTH};
+use super::sampler::{room, sample_of};
+use super::{bits, shape, trits, words, write_words};
+use crate::reference::frame::DEAL;
+use crate::reference::numbers::{NO_SET, UNFIT_TRIT, WRONG_LENGTH};
 
-/// Where w̃, z0 and r0 stand in a tape.
-const INNER_MASK: usize = 128;
-const Z0: usize = 160;
-pub(super) const R0: usize = 192;
+/// String i of a tape's six: K̃0, K̃1, x̃0, x̃1, w̃, z0.
+#[inline(always)]
+fn string<const W: usize>(tape: &[u8], i: usize) -> [u64; W] {
+    words(tape, 8 * W * i)
+}
+
+/// r0, which comes after them.
+#[inline(always)]
+fn first_r<const W: usize>(tape: &[u8]) -> trits::Vector<W> {
+    trits::Vector::read(tape, shape(W).copied_bytes())
+}
 
 /// z1 = z0 + K̃ × x̃ + w̃ modulo 2.
 #[inline(always)]
-pub(super) fn second_z(tape: &[u8; TAPE_BYTES]) -> [u64; 4] {
-    let string = |at| words(tape, at);
-    let key_mask = bits::xor(string(0), string(32));
-    let label_mask = bits::xor(string(64), string(96));
-    bits::xor(bits::product(key_mask, label_mask), bits::xor(string(Z0), string(INNER_MASK)))
+pub(super) fn second_z<const W: usize>(tape: &[u8]) -> [u64; W] {
+    let key_mask = bits::xor(string::<W>(tape, 0), string(tape, 1));
+    let label_mask = bits::xor(string(tape, 2), string(tape, 3));
+    bits::xor(bits::product(key_mask, label_mask), bits::xor(string(tape, 5), string(tape, 4)))
 }
 
 /// r1 = w̃ − r0 modulo 3.
 #[inline(always)]
-pub(super) fn second_r(tape: &[u8; TAPE_BYTES]) -> trits::Vector {
-    trits::difference(words(tape, INNER_MASK), trits::Vector::read(tape, R0))
+pub(super) fn second_r<const W: usize>(tape: &[u8]) -> trits::Vector<W> {
+    trits::difference(string(tape, 4), first_r(tape))
+}
+
+/// Writes one deal frame.
+#[inline(always)]
+fn write_deal<const W: usize>(
+    side: u8,
+    session: u32,
+    strings: [[u64; W]; 3],
+    r: trits::Vector<W>,
+    out: &mut [u8],
+) {
+    let out = &mut out[..shape(W).deal_bytes()];
+    write_header(DEAL, side, session, out);
+    for i in 0..3 {
+        write_words(strings[i], out, HEADER + 8 * W * i);
+    }
+    r.write(out, shape(W).r_in_deal());
 }
 
 /// Writes both deal frames of a tape.
 #[inline(always)]
-fn write_deal(session: u32, tape: &[u8; TAPE_BYTES], out: &mut [u8; DEALT_BYTES]) {
-    let (first, second) = out.split_at_mut(DEAL_BYTES);
-    write_header(DEAL, 0, session, first);
-    *part_mut::<32>(first, HEADER) = *part(tape, 0);
-    *part_mut::<32>(first, HEADER + 32) = *part(tape, 64);
-    *part_mut::<96>(first, HEADER + 64) = *part(tape, Z0);
-    write_header(DEAL, 1, session, second);
-    *part_mut::<32>(second, HEADER) = *part(tape, 32);
-    *part_mut::<32>(second, HEADER + 32) = *part(tape, 96);
-    write_words(second_z(tape), second, HEADER + 64);
-    second_r(tape).write(second, HEADER + 96);
+fn write_deals<const W: usize>(session: u32, tape: &[u8], out: &mut [u8]) {
+    let tape = &tape[..shape(W).tape_bytes()];
+    let (first, second) = out.split_at_mut(shape(W).deal_bytes());
+    let strings = [string(tape, 0), string(tape, 2), string(tape, 5)];
+    write_deal::<W>(0, session, strings, first_r(tape), first);
+    let strings = [string(tape, 1), string(tape, 3), second_z(tape)];
+    write_deal::<W>(1, session, strings, second_r(tape), second);
 }
 
 /// Both deal frames of a session and a tape.
 #[inline(never)]
-pub fn deal(session: u32, tape: &[u8], out: &mut [u8]) -> u32 {
-    let (Ok(tape), Some(out)) = (<&[u8; TAPE_BYTES]>::try_from(tape), out.first_chunk_mut()) else {
+pub fn deal(set: u32, session: u32, tape: &[u8], out: &mut [u8]) -> u32 {
+    with_set!(set, deal_of(session, tape, out))
+}
+
+/// The same in one set.
+#[inline(never)]
+fn deal_of<const W: usize, const D: usize, const P: usize>(
+    session: u32,
+    tape: &[u8],
+    out: &mut [u8],
+) -> u32 {
+    if tape.len() != shape(W).tape_bytes() || out.len() < shape(W).dealt_bytes() {
         return WRONG_LENGTH;
-    };
-    if !trits::Vector::<4>::read(tape, R0).fits() {
+    }
+    if !first_r::<W>(tape).fits() {
         return UNFIT_TRIT;
     }
-    write_deal(session, tape, out);
+    write_deals::<W>(session, tape, out);
     0
 }
 
 /// Both deal frames of the tape that the sampler makes of a source's pairs from a
 /// start on, and the next unread pair.
 #[inline(never)]
-pub fn deal_source(session: u32, start: u64, source: &[u8], out: &mut [u8], next: &mut u64) -> u32 {
+pub fn deal_source(
+    set: u32,
+    session: u32,
+    start: u64,
+    source: &[u8],
+    out: &mut [u8],
+    next: &mut u64,
+) -> u32 {
     *next = 0;
-    let Some(out) = out.first_chunk_mut() else {
+    match set {
+        1 => deal_source_of::<4, 256, { room(4) }>(session, start, source, out, next),
+        2 => deal_source_of::<1, 64, { room(1) }>(session, start, source, out, next),
+        3 => deal_source_of::<8, 512, { room(8) }>(session, start, source, out, next),
+        _ => NO_SET,
+    }
+}
+
+/// The same in one set, whose tape has N bytes.
+#[inline(never)]
+fn deal_source_of<const W: usize, const N: usize, const ROOM: usize>(
+    session: u32,
+    start: u64,
+    source: &[u8],
+    out: &mut [u8],
+    next: &mut u64,
+) -> u32 {
+    if out.len() < shape(W).dealt_bytes() {
         return WRONG_LENGTH;
-    };
-    let mut tape = [0; TAPE_BYTES];
-    let number = sample(start, source, &mut tape, next);
+    }
+    let mut tape = [0; N];
+    let number = sample_of::<W, ROOM>(start, source, &mut tape, next);
     if number == 0 {
-        write_deal(session, &tape, out);
+        write_deals::<W>(session, &tape, out);
     }
     number
 }

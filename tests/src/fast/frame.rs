@@ -1,7 +1,7 @@
 //! Frames: kinds, lengths and the header, read and written where they stand.
 
-use super::{part, part_mut};
-use crate::reference::frame::{length_of_kind, DEAL, MASK};
+use super::{part, part_mut, shape};
+use crate::reference::frame::{DEAL, MASK, OPEN};
 use crate::reference::numbers::{FRAME_LENGTH, NO_KIND};
 
 pub(super) const HEADER: usize = 6;
@@ -19,13 +19,24 @@ pub(super) fn write_header(kind: u8, side: u8, session: u32, out: &mut [u8]) {
     *part_mut(out, 0) = [kind, side, a, b, c, d];
 }
 
+/// The length of a frame of this kind, 1 to 4.
+#[inline(always)]
+fn length<const W: usize>(kind: u8) -> usize {
+    match kind {
+        DEAL => shape(W).deal_bytes(),
+        OPEN => shape(W).open_bytes(),
+        MASK => shape(W).mask_bytes(),
+        _ => shape(W).share_bytes(),
+    }
+}
+
 /// 3 or 4 of a frame whose kind may be `lowest` to `highest`, or 0.
 #[inline(always)]
-pub(super) fn form_number(frame: &[u8], lowest: u8, highest: u8) -> u32 {
+pub(super) fn form_number<const W: usize>(frame: &[u8], lowest: u8, highest: u8) -> u32 {
     if frame.len() < HEADER || frame[0] < lowest || frame[0] > highest {
         return NO_KIND;
     }
-    if length_of_kind(frame[0]) != Some(frame.len()) {
+    if frame.len() != length::<W>(frame[0]) {
         return FRAME_LENGTH;
     }
     0

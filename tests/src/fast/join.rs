@@ -2,7 +2,7 @@
 
 use super::codes;
 use super::frame::{form_number, session, HEADER};
-use crate::reference::frame::{SHARE, SHARE_BYTES};
+use crate::reference::frame::SHARE;
 use crate::reference::numbers::{OTHER_SESSION, OTHER_SIDE, UNFIT_TRIT, UNUSED_BIT, WRONG_LENGTH};
 
 /// The lower of two numbers, where 0 is none.
@@ -17,32 +17,38 @@ fn lower(a: u32, b: u32) -> u32 {
 
 /// The code of two share frames, side 0's first.
 #[inline(never)]
-pub fn join(share0: &[u8], share1: &[u8], out: &mut [u8]) -> u32 {
-    let Some(out) = out.first_chunk_mut::<22>() else {
+pub fn join(set: u32, share0: &[u8], share1: &[u8], out: &mut [u8]) -> u32 {
+    with_set!(set, join_of(share0, share1, out))
+}
+
+/// The same in one set.
+#[inline(never)]
+fn join_of<const W: usize, const D: usize, const P: usize>(
+    share0: &[u8],
+    share1: &[u8],
+    out: &mut [u8],
+) -> u32 {
+    if out.len() < P / 4 {
         return WRONG_LENGTH;
-    };
-    let number = lower(form_number(share0, SHARE, SHARE), form_number(share1, SHARE, SHARE));
+    }
+    let form = |share| form_number::<W>(share, SHARE, SHARE);
+    let number = lower(form(share0), form(share1));
     if number != 0 {
         return number;
     }
-    let (Ok(a), Ok(b)) =
-        (<&[u8; SHARE_BYTES]>::try_from(share0), <&[u8; SHARE_BYTES]>::try_from(share1))
-    else {
-        return WRONG_LENGTH;
-    };
-    if session(a) != session(b) {
+    if session(share0) != session(share1) {
         return OTHER_SESSION;
     }
-    if a[1] != 0 || b[1] != 1 {
+    if share0[1] != 0 || share1[1] != 1 {
         return OTHER_SIDE;
     }
-    let (a, b) = (a[HEADER..].try_into().expect("a code"), b[HEADER..].try_into().expect("a code"));
-    if codes::both_bits::<81>(a) | codes::both_bits::<81>(b) != 0 {
+    let (a, b) = (&share0[HEADER..], &share1[HEADER..]);
+    if codes::both_bits::<D>(a) | codes::both_bits::<D>(b) != 0 {
         return UNFIT_TRIT;
     }
-    if codes::spare_bits::<81>(a) | codes::spare_bits::<81>(b) != 0 {
+    if codes::spare_bits::<D>(a) | codes::spare_bits::<D>(b) != 0 {
         return UNUSED_BIT;
     }
-    codes::add::<81>(a, b, out);
+    codes::add::<D>(a, b, out);
     0
 }

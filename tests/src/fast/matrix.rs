@@ -1,16 +1,11 @@
 //! The matrix file: judged in one pass, and its rows multiplied where they
 //! stand. A file is public, so it may be branched on.
 
-use super::part;
 use super::rows::{row_digit, Digits};
 use super::trits::Vector;
-use crate::reference::matrix::{BLOCKS, BLOCK_BYTES, CHECK_AT, ROW_BYTES};
+use super::{part, shape};
+use crate::reference::matrix::{BLOCK_BYTES, CHECK_AT, ROWS_AT};
 use crate::reference::numbers::{BLOCK_CHECK, BLOCK_LAYOUT, UNFIT_TRIT, WRONG_LENGTH, ZERO_ROW};
-
-pub(super) const FILE_BYTES: usize = BLOCKS * BLOCK_BYTES;
-const ROWS_AT: usize = 4;
-const ROWS_OF_A_BLOCK: usize = 7;
-const ROWS_OF_THE_LAST: usize = 4;
 
 /// The two sums of half a block, no remainder taken: 16 columns of 16 bytes are
 /// added side by side. A byte in row g and column j of 16 rows counts 16 - g
@@ -48,9 +43,9 @@ fn bad_check(block: &[u8; BLOCK_BYTES]) -> bool {
 
 /// Whether bytes 0 to 3 or unused bytes differ from the layout.
 #[inline(always)]
-fn bad_layout(block: &[u8; BLOCK_BYTES], number: usize, rows: usize) -> bool {
-    let unused = &block[ROWS_AT + ROW_BYTES * rows..CHECK_AT];
-    *part(block, 0) != [0x42, number as u8, rows as u8, 1]
+fn bad_layout<const W: usize>(block: &[u8; BLOCK_BYTES], number: usize, rows: usize) -> bool {
+    let unused = &block[ROWS_AT + 16 * W * rows..CHECK_AT];
+    *part(block, 0) != [0x42, number as u8, rows as u8, shape(W).set as u8]
         || unused.iter().fold(0, |any, byte| any | byte) != 0
 }
 
@@ -65,32 +60,39 @@ struct Faults {
 
 /// What is done with each row while a file is judged; no closure, so that it is
 /// compiled in place.
-trait Visit {
-    fn visit(&mut self, i: usize, row: Vector);
+trait Visit<const W: usize> {
+    fn visit(&mut self, i: usize, row: Vector<W>);
 }
 
 /// Rows that are only judged.
-impl Visit for () {
+impl<const W: usize> Visit<W> for () {
     #[inline(always)]
-    fn visit(&mut self, _: usize, _: Vector) {}
+    fn visit(&mut self, _: usize, _: Vector<W>) {}
 }
 
 /// Rows times a vector.
-struct Products {
-    v: Vector,
-    digits: Digits,
+struct Products<const W: usize, const P: usize> {
+    v: Vector<W>,
+    digits: Digits<P>,
 }
 
-impl Visit for Products {
+impl<const W: usize, const P: usize> Products<W, P> {
     #[inline(always)]
-    fn visit(&mut self, i: usize, row: Vector) {
+    fn with(v: Vector<W>) -> Products<W, P> {
+        Products { v, digits: Digits::none() }
+    }
+}
+
+impl<const W: usize, const P: usize> Visit<W> for Products<W, P> {
+    #[inline(always)]
+    fn visit(&mut self, i: usize, row: Vector<W>) {
         self.digits.set(i, row_digit(row, self.v));
     }
 }
 
-impl Visit for [Products; 2] {
+impl<const W: usize, const P: usize> Visit<W> for [Products<W, P>; 2] {
     #[inline(always)]
-    fn visit(&mut self, i: usize, row: Vector) {
+    fn visit(&mut self, i: usize, row: Vector<W>) {
         self[0].visit(i, row);
         self[1].visit(i, row);
     }
@@ -99,20 +101,20 @@ impl Visit for [Products; 2] {
 impl Faults {
     /// Judges a block, and hands on each of its rows with its number.
     #[inline(always)]
-    fn judge(
+    fn judge<const W: usize>(
         &mut self,
         block: &[u8; BLOCK_BYTES],
         number: usize,
         rows: usize,
-        visit: &mut impl Visit,
+        visit: &mut impl Visit<W>,
     ) {
         self.check |= bad_check(block);
-        self.layout |= bad_layout(block, number, rows);
+        self.layout |= bad_layout::<W>(block, number, rows);
         for i in 0..rows {
-            let row: Vector = Vector::read(block, ROWS_AT + ROW_BYTES * i);
+            let row = Vector::<W>::read(block, ROWS_AT + 16 * W * i);
             self.unfit |= row.both_bits();
             self.zero_row |= row.is_zero();
-            visit.visit(ROWS_OF_A_BLOCK * number + i, row);
+            visit.visit(shape(W).block_rows * number + i, row);
         }
     }
 
@@ -129,38 +131,52 @@ impl Faults {
     }
 }
 
-/// The number of a file, each of whose rows is visited.
+/// The number of a file of the set's length, each of whose rows is visited.
 #[inline(always)]
-fn pass(file: &[u8; FILE_BYTES], visit: &mut impl Visit) -> u32 {
+fn pass<const W: usize>(file: &[u8], visit: &mut impl Visit<W>) -> u32 {
+    let file = &file[..shape(W).file_bytes()];
     let mut faults = Faults::default();
-    for number in 0..BLOCKS - 1 {
+    let last = shape(W).blocks() - 1;
+    for number in 0..last {
         let block = part(file, BLOCK_BYTES * number);
-        faults.judge(block, number, ROWS_OF_A_BLOCK, visit);
+        faults.judge(block, number, shape(W).block_rows, visit);
     }
-    let last = part(file, BLOCK_BYTES * (BLOCKS - 1));
-    faults.judge(last, BLOCKS - 1, ROWS_OF_THE_LAST, visit);
+    let rows = shape(W).rows_in_block(last);
+    faults.judge(part(file, BLOCK_BYTES * last), last, rows, visit);
     faults.number()
 }
 
 /// The number of a file, and its rows times a vector.
 #[inline(always)]
-pub(super) fn trit_rows(file: &[u8; FILE_BYTES], v: Vector) -> (u32, Digits) {
-    let mut rows = Products { v, digits: Digits::none() };
+pub(super) fn trit_rows<const W: usize, const P: usize>(
+    file: &[u8],
+    v: Vector<W>,
+) -> (u32, Digits<P>) {
+    let mut rows = Products::with(v);
     (pass(file, &mut rows), rows.digits)
 }
 
 /// The number of a file, and its rows times two vectors.
 #[inline(always)]
-pub(super) fn rows_of_both(file: &[u8; FILE_BYTES], vectors: [Vector; 2]) -> (u32, [Digits; 2]) {
-    let mut rows = vectors.map(|v| Products { v, digits: Digits::none() });
+pub(super) fn rows_of_both<const W: usize, const P: usize>(
+    file: &[u8],
+    vectors: [Vector<W>; 2],
+) -> (u32, [Digits<P>; 2]) {
+    let mut rows = vectors.map(Products::with);
     (pass(file, &mut rows), rows.map(|rows| rows.digits))
 }
 
 /// The matrix check: the number of a file.
 #[inline(never)]
-pub fn matrix_check(file: &[u8]) -> u32 {
-    match file.try_into() {
-        Ok(file) => pass(file, &mut ()),
-        Err(_) => WRONG_LENGTH,
+pub fn matrix_check(set: u32, file: &[u8]) -> u32 {
+    with_set!(set, check_of(file))
+}
+
+/// The same in one set.
+#[inline(never)]
+fn check_of<const W: usize, const D: usize, const P: usize>(file: &[u8]) -> u32 {
+    match file.len() == shape(W).file_bytes() {
+        true => pass::<W>(file, &mut ()),
+        false => WRONG_LENGTH,
     }
 }

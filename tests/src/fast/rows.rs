@@ -4,7 +4,7 @@ use super::trits::{sum, Trits, Vector};
 use super::word;
 
 /// The digits of a code, a byte each, in the places of its planes.
-pub(super) struct Digits<const PLACES: usize = 88> {
+pub(super) struct Digits<const PLACES: usize> {
     digits: [u8; PLACES],
 }
 

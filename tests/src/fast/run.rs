@@ -1,25 +1,26 @@
 //! A whole run in one place: what the dealer and each unit compute, without the
 //! frames between them, one pass over the file for both shares, and the join.
 
-use super::dealer::{second_r, second_z, R0};
-use super::matrix::{rows_of_both, FILE_BYTES};
+use super::dealer::{second_r, second_z};
+use super::matrix::rows_of_both;
 use super::trits::{share, Vector};
 use super::unit::own_mask;
 use super::{bits, codes, part, words};
-use crate::reference::dealer::TAPE_BYTES;
 use crate::reference::numbers::{BLOCK_CHECK, BLOCK_LAYOUT, UNFIT_TRIT, WRONG_LENGTH};
 use crate::reference::program::INPUT_BYTES;
+use crate::reference::shape::SET_1;
 
 /// Where the halves, the tape and the file stand in the input.
 const KEYS: usize = 0;
 const LABELS: usize = 64;
 const TAPE: usize = 128;
-const FILE: usize = TAPE + TAPE_BYTES;
+const FILE: usize = TAPE + SET_1.tape_bytes();
+const R0: usize = SET_1.copied_bytes();
 
 /// The inner shares of both units.
 #[inline(always)]
-fn inner_shares(input: &[u8; INPUT_BYTES]) -> [Vector; 2] {
-    let tape: &[u8; TAPE_BYTES] = part(input, TAPE);
+fn inner_shares(input: &[u8; INPUT_BYTES]) -> [Vector<4>; 2] {
+    let tape: &[u8; SET_1.tape_bytes()] = part(input, TAPE);
     let half = |at| words(input, at);
     let masks = |at: usize| [words(tape, at), words(tape, at + 32)];
     let (key_masks, label_masks) = (masks(0), masks(64));
@@ -42,8 +43,7 @@ pub fn pair_run(input: &[u8], out: &mut [u8]) -> u32 {
     else {
         return WRONG_LENGTH;
     };
-    let file: &[u8; FILE_BYTES] = part(input, FILE);
-    let (number, digits) = rows_of_both(file, inner_shares(input));
+    let (number, digits) = rows_of_both::<4, 88>(&input[FILE..], inner_shares(input));
     let tape_fits = Vector::<4>::read(input, TAPE + R0).fits();
     if !tape_fits && number != BLOCK_CHECK && number != BLOCK_LAYOUT {
         return UNFIT_TRIT;

@@ -39,7 +39,7 @@ pub(super) fn sum(a: Trits, b: Trits) -> Trits {
 
 /// 64 W trits, as they are read: both bits of one may be set.
 #[derive(Clone, Copy)]
-pub(super) struct Vector<const W: usize = 4> {
+pub(super) struct Vector<const W: usize> {
     pub(super) low: [u64; W],
     pub(super) high: [u64; W],
 }

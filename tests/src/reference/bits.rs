@@ -1,7 +1,6 @@
 //! "Bits and trits" and "The function": bits, sums modulo 2, the circulant.
 
-/// "Keys, labels and masks have 256 bits (32 bytes)".
-pub const STRING_BYTES: usize = 32;
+use super::shape::Shape;
 
 /// "Bit j of a string is bit j mod 8 (bit 0 lowest) of byte j div 8."
 pub fn bit(string: &[u8], j: usize) -> u8 {
@@ -45,11 +44,11 @@ pub fn circulant_product(key: &[u8], label: &[u8], n: usize) -> Vec<u8> {
 }
 
 /// `add_bits` for keys, labels and masks.
-pub fn add(a: &[u8], b: &[u8]) -> Vec<u8> {
-    add_bits(a, b, STRING_BYTES)
+pub fn add(shape: Shape, a: &[u8], b: &[u8]) -> Vec<u8> {
+    add_bits(a, b, shape.string_bytes())
 }
 
 /// `circulant_product` for keys, labels and masks.
-pub fn multiply(key: &[u8], label: &[u8]) -> Vec<u8> {
-    circulant_product(key, label, STRING_BYTES)
+pub fn multiply(shape: Shape, key: &[u8], label: &[u8]) -> Vec<u8> {
+    circulant_product(key, label, shape.string_bytes())
 }

@@ -1,27 +1,16 @@
 //! "Tape and deal": the tape's parts, the deals, the dealer, and the sampler of
 //! document 02.
 
-use super::bits::{add, multiply, part, STRING_BYTES};
+use super::bits::{add, multiply, part};
 use super::frame::{frame_of, DEAL};
 use super::numbers::{Answer, SHORT_SOURCE, UNFIT_TRIT, WRONG_LENGTH};
+use super::shape::Shape;
 use super::trits::{pack_trits, subtract_trits, trits_fit};
-
-/// "A tape is 256 bytes"
-pub const TAPE_BYTES: usize = 256;
-/// "The first 192, for all that stands before r0"
-pub const COPIED_BYTES: usize = 192;
-/// "768 pairs"
-pub const COPIED_PAIRS: usize = 4 * COPIED_BYTES;
-/// "an inner trit vector 64 bytes"
-pub const VECTOR_BYTES: usize = 64;
-/// "332 bytes"
-pub const DEALT_BYTES: usize = 332;
-/// The trits of r0.
-pub const VECTOR_TRITS: usize = 256;
 
 /// "six bit strings K̃0, K̃1, x̃0, x̃1, w̃, z0, then the trit vector r0"
 #[derive(Clone, Debug, PartialEq, Eq)]
 pub struct Tape {
+    pub shape: Shape,
     pub key_masks: [Vec<u8>; 2],
     pub label_masks: [Vec<u8>; 2],
     pub inner_mask: Vec<u8>,
@@ -31,14 +20,15 @@ pub struct Tape {
 
 impl Tape {
     /// The parts of a tape, in the stated order.
-    pub fn read(tape: &[u8]) -> Tape {
-        let string = |i| part(tape, STRING_BYTES * i, STRING_BYTES);
+    pub fn read(shape: Shape, tape: &[u8]) -> Tape {
+        let string = |i| part(tape, shape.string_bytes() * i, shape.string_bytes());
         Tape {
+            shape,
             key_masks: [string(0), string(1)],
             label_masks: [string(2), string(3)],
             inner_mask: string(4),
             z0: string(5),
-            r0: part(tape, COPIED_BYTES, VECTOR_BYTES),
+            r0: part(tape, shape.copied_bytes(), shape.vector_bytes()),
         }
     }
 
@@ -50,19 +40,20 @@ impl Tape {
 
     /// "K̃ × x̃" with "K̃ = K̃0 + K̃1 (as a circulant) and x̃ = x̃0 + x̃1"
     pub fn mask_product(&self) -> Vec<u8> {
-        let key_mask = add(&self.key_masks[0], &self.key_masks[1]);
-        let label_mask = add(&self.label_masks[0], &self.label_masks[1]);
-        multiply(&key_mask, &label_mask)
+        let key_mask = add(self.shape, &self.key_masks[0], &self.key_masks[1]);
+        let label_mask = add(self.shape, &self.label_masks[0], &self.label_masks[1]);
+        multiply(self.shape, &key_mask, &label_mask)
     }
 
     /// "z1 = z0 + K̃ × x̃ + w̃ modulo 2"
     pub fn z1(&self) -> Vec<u8> {
-        add(&add(&self.z0, &self.mask_product()), &self.inner_mask)
+        let masked = add(self.shape, &self.z0, &self.mask_product());
+        add(self.shape, &masked, &self.inner_mask)
     }
 
     /// "r1 = w̃ − r0 modulo 3"
     pub fn r1(&self) -> Vec<u8> {
-        subtract_trits(&self.inner_mask, &self.r0, STRING_BYTES)
+        subtract_trits(&self.inner_mask, &self.r0, self.shape.string_bytes())
     }
 
     /// "Unit i's deal is K̃i, x̃i, zi, ri."
@@ -92,13 +83,13 @@ pub struct Deal {
 
 impl Deal {
     /// The deal in a deal frame's body.
-    pub fn read(body: &[u8]) -> Deal {
-        let string = |i| part(body, STRING_BYTES * i, STRING_BYTES);
+    pub fn read(shape: Shape, body: &[u8]) -> Deal {
+        let string = |i| part(body, shape.string_bytes() * i, shape.string_bytes());
         Deal {
             key_mask: string(0),
             label_mask: string(1),
             z: string(2),
-            r: part(body, 3 * STRING_BYTES, VECTOR_BYTES),
+            r: part(body, 3 * shape.string_bytes(), shape.vector_bytes()),
         }
     }
 
@@ -108,47 +99,49 @@ impl Deal {
     }
 
     /// The deal part of a state that has none: zeros.
-    pub fn none() -> Deal {
-        Deal::read(&[])
+    pub fn none(shape: Shape) -> Deal {
+        Deal::read(shape, &[])
     }
 }
 
 /// "A tape is accepted when it has the stated length and no trit of its r0 has
 /// both bits set."
-pub fn tape_accepted(tape: &[u8]) -> bool {
-    tape.len() == TAPE_BYTES && tape_fits(tape)
+pub fn tape_accepted(shape: Shape, tape: &[u8]) -> bool {
+    tape.len() == shape.tape_bytes() && tape_fits(shape, tape)
 }
 
 /// Whether no trit of the tape's r0 has both bits set.
-pub fn tape_fits(tape: &[u8]) -> bool {
-    trits_fit(&part(tape, COPIED_BYTES, VECTOR_BYTES), VECTOR_TRITS)
+pub fn tape_fits(shape: Shape, tape: &[u8]) -> bool {
+    trits_fit(&Tape::read(shape, tape).r0, shape.bits)
 }
 
-/// "writes unit 0's deal frame, then unit 1's, 332 bytes"
-fn deal_frames(session: u32, tape: &[u8]) -> Vec<u8> {
-    let [deal0, deal1] = Tape::read(tape).deals();
+/// "writes unit 0's deal frame, then unit 1's"
+fn deal_frames(shape: Shape, session: u32, tape: &[u8]) -> Vec<u8> {
+    let [deal0, deal1] = Tape::read(shape, tape).deals();
     let frame0 = frame_of(DEAL, 0, session, &deal0.bytes());
     let frame1 = frame_of(DEAL, 1, session, &deal1.bytes());
     [frame0, frame1].concat()
 }
 
 /// "The dealer takes a session and a tape".
-pub fn deal(session: u32, tape: &[u8], room: usize) -> Answer {
-    let right = tape.len() == TAPE_BYTES;
-    let conditions =
-        [(WRONG_LENGTH, !right || room < DEALT_BYTES), (UNFIT_TRIT, right && !tape_fits(tape))];
-    Answer::unless(&conditions, || deal_frames(session, tape))
+pub fn deal(shape: Shape, session: u32, tape: &[u8], room: usize) -> Answer {
+    let right = tape.len() == shape.tape_bytes();
+    let conditions = [
+        (WRONG_LENGTH, !right || room < shape.dealt_bytes()),
+        (UNFIT_TRIT, right && !tape_fits(shape, tape)),
+    ];
+    Answer::unless(&conditions, || deal_frames(shape, session, tape))
 }
 
 /// "The dealer's form over source bytes follows": the tape is "what the sampler
 /// makes of them", from this start on, and it "reports the next unread pair".
-pub fn deal_source(session: u32, start: u64, source: &[u8], room: usize) -> Answer {
-    if room < DEALT_BYTES {
+pub fn deal_source(shape: Shape, session: u32, start: u64, source: &[u8], room: usize) -> Answer {
+    if room < shape.dealt_bytes() {
         return Answer::refused(WRONG_LENGTH);
     }
-    let sampled = sample(start, source, TAPE_BYTES);
+    let sampled = sample(shape, start, source, shape.tape_bytes());
     match sampled.number {
-        0 => Answer { count: sampled.count, ..deal(session, &sampled.bytes, room) },
+        0 => Answer { count: sampled.count, ..deal(shape, session, &sampled.bytes, room) },
         number => Answer::refused(number),
     }
 }
@@ -178,28 +171,31 @@ pub fn uncounted(bytes: usize) -> bool {
 }
 
 /// "pairs of value 3 are skipped and the others are the trits of r0 in turn":
-/// the trits of these pairs, each with the place of its pair.
-fn trits_of(pairs: &[u8]) -> Vec<(usize, u8)> {
+/// the first n trits of these pairs, each with the place of its pair.
+fn trits_of(pairs: &[u8], n: usize) -> Vec<(usize, u8)> {
     let places = pairs.iter().copied().enumerate();
-    places.filter(|(_, pair)| *pair != 3).take(VECTOR_TRITS).collect()
+    places.filter(|(_, pair)| *pair != 3).take(n).collect()
 }
 
 /// "The sampler shall take a starting pair and report the next unread pair. The
-/// 192 copied bytes are then 768 pairs, lowest first." The trits are drawn from
-/// the pairs after those, and places are counted from the source's beginning.
-pub fn sample(start: u64, source: &[u8], room: usize) -> Answer {
+/// 192 copied bytes are then 768 pairs, lowest first", 3n in each set. The trits
+/// are drawn from the pairs after those, and places are counted from the source's
+/// beginning.
+pub fn sample(shape: Shape, start: u64, source: &[u8], room: usize) -> Answer {
     let pairs = pairs_from(source, start);
-    let (copied, later) = pairs.split_at(COPIED_PAIRS.min(pairs.len()));
-    let trits = trits_of(later);
-    let short = copied.len() < COPIED_PAIRS || trits.len() < VECTOR_TRITS;
-    let conditions =
-        [(WRONG_LENGTH, room < TAPE_BYTES), (SHORT_SOURCE, uncounted(source.len()) || short)];
+    let (copied, later) = pairs.split_at(shape.copied_pairs().min(pairs.len()));
+    let trits = trits_of(later, shape.bits);
+    let short = copied.len() < shape.copied_pairs() || trits.len() < shape.bits;
+    let conditions = [
+        (WRONG_LENGTH, room < shape.tape_bytes()),
+        (SHORT_SOURCE, uncounted(source.len()) || short),
+    ];
     let trit_at = |j: usize| trits.get(j).map_or(0, |(_, trit)| *trit);
     let mut answer = Answer::unless(&conditions, || {
-        [bytes_of(copied), pack_trits(STRING_BYTES, trit_at)].concat()
+        [bytes_of(copied), pack_trits(shape.string_bytes(), trit_at)].concat()
     });
     if let (0, Some((last, _))) = (answer.number, trits.last()) {
-        answer.count = start + (COPIED_PAIRS + last + 1) as u64;
+        answer.count = start + (shape.copied_pairs() + last + 1) as u64;
     }
     answer
 }

@@ -1,31 +1,47 @@
 //! The twelve "Proved examples" of document 01, those of document 02, and the
 //! program's sample.
 
-use super::bits::{bit, circulant_product};
-use super::dealer::{sample, tape_accepted, uncounted};
-use super::matrix::{block_sums, check_differs, file_of_rows, layout_differs, matrix_check};
-use super::numbers::{lowest, BLOCK_CHECK, BLOCK_LAYOUT, SHORT_SOURCE};
-use super::program::{program, Inputs};
+use super::bits::{bit, multiply, pack};
+use super::dealer::{self, tape_accepted, uncounted};
+use super::evaluator::evaluate;
+use super::matrix::{
+    block_of, block_sums, check_differs, layout_differs, matrix_check, BLOCK_BYTES, CHECK_AT,
+    SET_AT,
+};
+use super::numbers::{lowest, Answer, BLOCK_CHECK, BLOCK_LAYOUT, NO_SET, SHORT_SOURCE};
+use super::program::{digits, program, Inputs};
+use super::shape::{with_set, Shape, SETS, SET_1, SET_2, SET_3};
 use super::trits::{add_trits, inner_share, pack_trits, trit};
+use super::unit::{begin_with_set, State};
 use crate::random::Random;
+use crate::samples::{diagonal_file, seal};
+
+/// The sampler of set 1, whose examples these are.
+fn sample(start: u64, source: &[u8], room: usize) -> Answer {
+    dealer::sample(SET_1, start, source, room)
+}
 
 /// A key or label with these bits alone.
-fn string_with(bits: &[usize]) -> Vec<u8> {
-    super::bits::pack(32, |j| u8::from(bits.contains(&j)))
+fn string_with(shape: Shape, bits: &[usize]) -> Vec<u8> {
+    pack(shape.string_bytes(), |j| u8::from(bits.contains(&j)))
 }
 
 #[test]
 fn example_1_key_bit_0_gives_the_label() {
-    let label = Random::for_test("example 1").bytes(32);
-    assert_eq!(circulant_product(&string_with(&[0]), &label, 32), label);
+    for shape in SETS {
+        let label = Random::for_test("example 1").bytes(shape.string_bytes());
+        assert_eq!(multiply(shape, &string_with(shape, &[0]), &label), label);
+    }
 }
 
 #[test]
 fn example_2_key_bit_1_moves_the_label() {
-    let label = Random::for_test("example 2").bytes(32);
-    let w = circulant_product(&string_with(&[1]), &label, 32);
-    for i in 0..256 {
-        assert_eq!(bit(&w, i), bit(&label, (i + 1) % 256));
+    for shape in SETS {
+        let label = Random::for_test("example 2").bytes(shape.string_bytes());
+        let w = multiply(shape, &string_with(shape, &[1]), &label);
+        for i in 0..shape.bits {
+            assert_eq!(bit(&w, i), bit(&label, (i + 1) % shape.bits));
+        }
     }
 }
 
@@ -79,7 +95,7 @@ fn example_9_next_unread_pair() {
     assert_eq!((answer.number, answer.count), (0, 1_109));
     let vector = pack_trits(32, |j| (j % 3) as u8);
     assert_eq!(answer.bytes, [vec![0; 192], vector].concat());
-    assert!(tape_accepted(&answer.bytes));
+    assert!(tape_accepted(SET_1, &answer.bytes));
     let longer = sample(0, &source_of(0xe4, 600), 256);
     assert_eq!(longer, answer);
 }
@@ -145,18 +161,112 @@ fn example_11_check_of_a_first_byte() {
 fn example_12_a_block_of_zeros() {
     let block = vec![0; 512];
     assert!(!check_differs(&block));
-    for number in 0..12 {
-        let conditions =
-            [(BLOCK_CHECK, check_differs(&block)), (BLOCK_LAYOUT, layout_differs(&block, number))];
-        assert_eq!(lowest(&conditions), 9);
+    for shape in SETS {
+        for number in 0..shape.blocks() {
+            let differs = layout_differs(shape, &block, number);
+            let conditions = [(BLOCK_CHECK, check_differs(&block)), (BLOCK_LAYOUT, differs)];
+            assert_eq!(lowest(&conditions), 9);
+        }
+        assert_eq!(matrix_check(shape, &vec![0; shape.file_bytes()]), 9);
     }
-    assert_eq!(matrix_check(&vec![0; 6144]), 9);
 }
 
-/// "matrix row i having trit 1 in column i alone"
-fn diagonal_file() -> Vec<u8> {
-    let row = |i: usize| pack_trits(32, |j| u8::from(i == j));
-    file_of_rows(&(0..81).flat_map(row).collect::<Vec<u8>>())
+/// The table of document 02's sets: "All lengths and 13's counts follow from n
+/// and t".
+#[test]
+fn lengths_of_the_three_sets() {
+    let lengths = |shape: Shape| {
+        [
+            shape.string_bytes(),
+            shape.vector_bytes(),
+            shape.code_bytes(),
+            shape.tape_bytes(),
+            shape.copied_bytes(),
+            shape.row_set_bytes(),
+            shape.file_bytes(),
+            shape.blocks(),
+            shape.deal_bytes(),
+            shape.open_bytes(),
+            shape.mask_bytes(),
+            shape.share_bytes(),
+            shape.step_room(),
+            shape.dealt_bytes(),
+            shape.copied_pairs(),
+            shape.bits,
+            shape.rows_in_block(shape.blocks() - 1),
+        ]
+    };
+    let table = [
+        [32, 64, 22, 256, 192, 5_184, 6_144, 12, 166, 70, 38, 28, 70, 332, 768, 256, 4],
+        [8, 16, 6, 64, 48, 336, 512, 1, 46, 22, 14, 12, 22, 92, 192, 64, 21],
+        [64, 128, 42, 512, 384, 20_736, 27_648, 54, 326, 134, 70, 48, 134, 652, 1_536, 512, 3],
+    ];
+    assert_eq!(SETS.map(lengths), table);
+}
+
+#[test]
+fn blocks_of_diagonal_files() {
+    let blocks = [
+        (SET_2, 0, [0x42, 0x00, 0x15, 0x02], [0x78, 0xce]),
+        (SET_3, 0, [0x42, 0x00, 0x03, 0x03], [0x4f, 0xcf]),
+        (SET_3, 53, [0x42, 0x35, 0x03, 0x03], [0x01, 0x65]),
+    ];
+    for (shape, number, header, check) in blocks {
+        let file = diagonal_file(shape);
+        assert_eq!(matrix_check(shape, &file), 0);
+        let block = block_of(&file, number);
+        assert_eq!((&block[..4], &block[CHECK_AT..]), (&header[..], &check[..]));
+    }
+}
+
+/// The digits of a key and a label of these bits, with the diagonal matrix.
+fn diagonal_digits(shape: Shape, key: &[usize], label: &[usize]) -> String {
+    let [key, label] = [key, label].map(|bits| string_with(shape, bits));
+    let answer = evaluate(shape, &key, &label, &diagonal_file(shape), shape.code_bytes());
+    assert_eq!(answer.number, 0);
+    digits(shape, &answer.bytes)
+}
+
+#[test]
+fn codes_with_diagonal_matrices() {
+    for shape in SETS {
+        let with_zeros = |first: &str| format!("{first:0<0$}", shape.digits);
+        assert_eq!(diagonal_digits(shape, &[0], &[0, 2]), with_zeros("101"));
+        let label = [0, 2, shape.bits - 1];
+        assert_eq!(diagonal_digits(shape, &[1], &label), with_zeros("01"));
+    }
+}
+
+#[test]
+fn next_unread_pairs_of_the_other_sets() {
+    for (shape, times, next) in [(SET_2, 22, 277), (SET_3, 171, 2_218)] {
+        let draw = |times| {
+            let source = [vec![0; shape.copied_bytes()], vec![0xe4; times]].concat();
+            let answer = dealer::sample(shape, 0, &source, shape.tape_bytes());
+            (answer.number, answer.count)
+        };
+        assert_eq!([draw(times), draw(times - 1)], [(0, next), (SHORT_SOURCE, 0)]);
+    }
+}
+
+#[test]
+fn a_file_named_as_another_set() {
+    let check = |set: u32, file: &[u8]| {
+        with_set(set, |shape| Answer::refused(matrix_check(shape, file))).number
+    };
+    let mut file = diagonal_file(SET_1);
+    assert_eq!([0, 1, 2, 3, 4].map(|set| check(set, &file)), [NO_SET, 0, 1, 1, NO_SET]);
+    file[BLOCK_BYTES * 5 + SET_AT] = 2;
+    assert_eq!(check(1, &file), BLOCK_CHECK);
+    seal(&mut file);
+    assert_eq!(check(1, &file), BLOCK_LAYOUT);
+}
+
+#[test]
+fn beginnings_with_no_set() {
+    let begin = |set| begin_with_set(set, 7, 1, &[], &[]);
+    assert_eq!([begin(4), begin(1)], [(NO_SET, State::idle()), (1, State::idle())]);
+    assert_eq!(State::idle().shape, SET_1);
 }
 
 #[test]
@@ -164,10 +274,11 @@ fn the_program_prints_its_sample() {
     let zero = || vec![0; 32];
     let first = |byte: u8| [vec![byte], vec![0; 31]].concat();
     let inputs = Inputs {
+        shape: SET_1,
         key_halves: [first(0x01), zero()],
         label_halves: [first(0x05), zero()],
         tape: vec![0; 256],
-        file: diagonal_file(),
+        file: diagonal_file(SET_1),
     };
     let input = inputs.bytes();
     assert_eq!(input.len(), 6528);

@@ -1,17 +1,15 @@
 //! "Frames": kinds, lengths and the header.
 
 use super::numbers::{FRAME_LENGTH, NO_KIND};
+use super::shape::Shape;
 
 pub const DEAL: u8 = 1;
 pub const OPEN: u8 = 2;
 pub const MASK: u8 = 3;
 pub const SHARE: u8 = 4;
 
-/// The whole lengths of the table of frames.
-pub const DEAL_BYTES: usize = 166;
-pub const OPEN_BYTES: usize = 70;
-pub const MASK_BYTES: usize = 38;
-pub const SHARE_BYTES: usize = 28;
+/// "kind, side, session (four bytes, lowest first)"
+pub const HEADER_BYTES: usize = 6;
 
 /// A frame taken apart.
 #[derive(Clone, Debug, PartialEq, Eq)]
@@ -23,12 +21,12 @@ pub struct Frame {
 }
 
 /// "whole length" of each kind of the table.
-pub fn length_of_kind(kind: u8) -> Option<usize> {
+pub fn length_of_kind(shape: Shape, kind: u8) -> Option<usize> {
     match kind {
-        DEAL => Some(DEAL_BYTES),
-        OPEN => Some(OPEN_BYTES),
-        MASK => Some(MASK_BYTES),
-        SHARE => Some(SHARE_BYTES),
+        DEAL => Some(shape.deal_bytes()),
+        OPEN => Some(shape.open_bytes()),
+        MASK => Some(shape.mask_bytes()),
+        SHARE => Some(shape.share_bytes()),
         _ => None,
     }
 }
@@ -39,15 +37,16 @@ pub fn frame_of(kind: u8, side: u8, session: u32, body: &[u8]) -> Vec<u8> {
 }
 
 /// "A frame is first read to its kind, side, session and body length, or to its
-/// refusal": 3 or 4, with the kinds that the call takes.
-pub fn read_frame(frame: &[u8], kinds: &[u8]) -> Result<Frame, u32> {
+/// refusal": 3 or 4, with the kinds that the call takes. No frame names a set: one
+/// of another set has another length.
+pub fn read_frame(shape: Shape, frame: &[u8], kinds: &[u8]) -> Result<Frame, u32> {
     let [kind, side, a, b, c, d, body @ ..] = frame else {
         return Err(NO_KIND);
     };
     if !kinds.contains(kind) {
         return Err(NO_KIND);
     }
-    if length_of_kind(*kind) != Some(frame.len()) {
+    if length_of_kind(shape, *kind) != Some(frame.len()) {
         return Err(FRAME_LENGTH);
     }
     Ok(Frame {

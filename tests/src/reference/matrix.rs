@@ -4,25 +4,17 @@ use super::bits::part;
 use super::numbers::{
     lowest, Answer, Condition, BLOCK_CHECK, BLOCK_LAYOUT, UNFIT_TRIT, WRONG_LENGTH, ZERO_ROW,
 };
+use super::shape::Shape;
 use super::trits::{row_is_zero, trits_fit};
 
-/// "Rows of 64 bytes (two planes)"
-pub const ROW_BYTES: usize = 64;
-/// "the public matrix of 81 rows"
-pub const ROWS: usize = 81;
-/// "The writer takes 81 rows, 5,184 bytes"
-pub const ROW_SET_BYTES: usize = 5_184;
 /// "12 blocks of 512"
-pub const BLOCKS: usize = 12;
 pub const BLOCK_BYTES: usize = 512;
-/// "6,144 bytes"
-pub const FILE_BYTES: usize = 6_144;
-/// "(7; in block 11, 4)"
-const ROWS_OF_A_BLOCK: usize = 7;
+/// "byte 3 of a block is the set"
+pub const SET_AT: usize = 3;
+/// "Rows of 64 bytes (two planes) start at byte 4"
+pub const ROWS_AT: usize = 4;
 /// "Bytes 510 and 511 are the check"
 pub const CHECK_AT: usize = 510;
-/// "Rows of 64 bytes (two planes) start at byte 4"
-const ROWS_AT: usize = 4;
 
 /// "two sums from 0, modulo 255, over bytes 0 to 509; the first adds each byte,
 /// the second adds the first after each byte"
@@ -35,27 +27,23 @@ pub fn block_sums(block: &[u8]) -> [u8; 2] {
     [first as u8, second as u8]
 }
 
-/// "the rows in it (7; in block 11, 4)"
-fn rows_in_block(number: usize) -> usize {
-    if number == 11 {
-        4
-    } else {
-        ROWS_OF_A_BLOCK
-    }
+/// Where the rows of a block end; "unused bytes" follow, up to the check.
+pub fn rows_end(shape: Shape, number: usize) -> usize {
+    ROWS_AT + shape.vector_bytes() * shape.rows_in_block(number)
 }
 
 /// Bytes 0 to 509 of a block: "Byte 0 is 42 hexadecimal, byte 1 the block
-/// number from 0, byte 2 the rows in it, byte 3 is 1", rows, zeros.
-fn unchecked_block(number: usize, rows: &[u8]) -> Vec<u8> {
-    let count = rows_in_block(number);
-    let header = vec![0x42, number as u8, count as u8, 1];
-    let content = part(rows, 0, ROW_BYTES * count);
+/// number from 0, byte 2 the rows in it", byte 3 the set, rows, zeros.
+fn unchecked_block(shape: Shape, number: usize, rows: &[u8]) -> Vec<u8> {
+    let count = shape.rows_in_block(number);
+    let header = vec![0x42, number as u8, count as u8, shape.set as u8];
+    let content = part(rows, 0, shape.vector_bytes() * count);
     part(&[header, content].concat(), 0, CHECK_AT)
 }
 
 /// A block with its check, as the writer makes it.
-fn block(number: usize, rows: &[u8]) -> Vec<u8> {
-    let bytes = unchecked_block(number, rows);
+fn block(shape: Shape, number: usize, rows: &[u8]) -> Vec<u8> {
+    let bytes = unchecked_block(shape, number, rows);
     let sums = block_sums(&bytes);
     [bytes, sums.to_vec()].concat()
 }
@@ -66,8 +54,8 @@ pub fn block_of(file: &[u8], number: usize) -> Vec<u8> {
 }
 
 /// The rows that a block holds, one after the other.
-fn rows_of_block(block: &[u8], number: usize) -> Vec<u8> {
-    part(block, ROWS_AT, ROW_BYTES * rows_in_block(number))
+fn rows_of_block(shape: Shape, block: &[u8], number: usize) -> Vec<u8> {
+    part(block, ROWS_AT, shape.vector_bytes() * shape.rows_in_block(number))
 }
 
 /// "a block's check differs" (8)
@@ -77,74 +65,78 @@ pub fn check_differs(block: &[u8]) -> bool {
 
 /// "a block's bytes 0 to 3 or its unused bytes differ from the layout" (9): the
 /// block is not what its own rows would be laid out as.
-pub fn layout_differs(block: &[u8], number: usize) -> bool {
-    part(block, 0, CHECK_AT) != unchecked_block(number, &rows_of_block(block, number))
+pub fn layout_differs(shape: Shape, block: &[u8], number: usize) -> bool {
+    let rows = rows_of_block(shape, block, number);
+    part(block, 0, CHECK_AT) != unchecked_block(shape, number, &rows)
 }
 
 /// Row i of a row set.
-pub fn row(rows: &[u8], i: usize) -> Vec<u8> {
-    part(rows, ROW_BYTES * i, ROW_BYTES)
+pub fn row(shape: Shape, rows: &[u8], i: usize) -> Vec<u8> {
+    part(rows, shape.vector_bytes() * i, shape.vector_bytes())
 }
 
 /// Where row i starts in a file.
-pub fn row_place(i: usize) -> usize {
-    BLOCK_BYTES * (i / ROWS_OF_A_BLOCK) + ROWS_AT + ROW_BYTES * (i % ROWS_OF_A_BLOCK)
+pub fn row_place(shape: Shape, i: usize) -> usize {
+    let (block, row) = (i / shape.block_rows, i % shape.block_rows);
+    BLOCK_BYTES * block + ROWS_AT + shape.vector_bytes() * row
 }
 
-/// The 81 rows of a file, 5,184 bytes.
-pub fn rows_of_file(file: &[u8]) -> Vec<u8> {
-    let rows = |number| rows_of_block(&block_of(file, number), number);
-    (0..BLOCKS).flat_map(rows).collect()
+/// All rows of a file, one after the other.
+pub fn rows_of_file(shape: Shape, file: &[u8]) -> Vec<u8> {
+    let rows = |number| rows_of_block(shape, &block_of(file, number), number);
+    (0..shape.blocks()).flat_map(rows).collect()
 }
 
 /// 10 and 12 over a row set.
-fn row_conditions(rows: &[u8]) -> [Condition; 2] {
-    let each_row = || (0..ROWS).map(|i| row(rows, i));
+fn row_conditions(shape: Shape, rows: &[u8]) -> [Condition; 2] {
+    let each_row = || (0..shape.digits).map(|i| row(shape, rows, i));
     [
-        (UNFIT_TRIT, each_row().any(|row| !trits_fit(&row, 256))),
+        (UNFIT_TRIT, each_row().any(|row| !trits_fit(&row, shape.bits))),
         (ZERO_ROW, each_row().any(|row| row_is_zero(&row))),
     ]
 }
 
 /// The conditions of a call that reads a matrix file, over the whole file;
 /// with another length nothing else of it can be judged.
-pub fn file_conditions(file: &[u8]) -> Vec<Condition> {
-    if file.len() != FILE_BYTES {
+pub fn file_conditions(shape: Shape, file: &[u8]) -> Vec<Condition> {
+    if file.len() != shape.file_bytes() {
         return vec![(WRONG_LENGTH, true)];
     }
-    let blocks = || (0..BLOCKS).map(|number| (block_of(file, number), number));
+    let blocks = || (0..shape.blocks()).map(|number| (block_of(file, number), number));
     let bad_check = blocks().any(|(block, _)| check_differs(&block));
-    let bad_layout = blocks().any(|(block, number)| layout_differs(&block, number));
+    let bad_layout = blocks().any(|(block, number)| layout_differs(shape, &block, number));
     let mut conditions = vec![(BLOCK_CHECK, bad_check), (BLOCK_LAYOUT, bad_layout)];
-    conditions.extend(row_conditions(&rows_of_file(file)));
+    conditions.extend(row_conditions(shape, &rows_of_file(shape, file)));
     conditions
 }
 
 /// "the matrix check takes a file and gives a number only"
-pub fn matrix_check(file: &[u8]) -> u32 {
-    lowest(&file_conditions(file))
+pub fn matrix_check(shape: Shape, file: &[u8]) -> u32 {
+    lowest(&file_conditions(shape, file))
 }
 
 /// "The writer takes 81 rows, 5,184 bytes, and writes the file"
-pub fn matrix_write(rows: &[u8], room: usize) -> Answer {
-    let right = rows.len() == ROW_SET_BYTES;
-    let mut conditions = vec![(WRONG_LENGTH, !right || room < FILE_BYTES)];
+pub fn matrix_write(shape: Shape, rows: &[u8], room: usize) -> Answer {
+    let right = rows.len() == shape.row_set_bytes();
+    let mut conditions = vec![(WRONG_LENGTH, !right || room < shape.file_bytes())];
     if right {
-        conditions.extend(row_conditions(rows));
+        conditions.extend(row_conditions(shape, rows));
     }
-    Answer::unless(&conditions, || file_of_rows(rows))
+    Answer::unless(&conditions, || file_of_rows(shape, rows))
 }
 
 /// The file of a row set, whatever its rows.
-pub fn file_of_rows(rows: &[u8]) -> Vec<u8> {
-    let first_row = |number| ROW_BYTES * ROWS_OF_A_BLOCK * number;
-    let rows_from = |number| part(rows, first_row(number), ROW_BYTES * ROWS_OF_A_BLOCK);
-    (0..BLOCKS).flat_map(|number| block(number, &rows_from(number))).collect()
+pub fn file_of_rows(shape: Shape, rows: &[u8]) -> Vec<u8> {
+    let rows_from = |number| {
+        let before = shape.vector_bytes() * shape.rows_before_block(number);
+        part(rows, before, shape.vector_bytes() * shape.block_rows)
+    };
+    (0..shape.blocks()).flat_map(|number| block(shape, number, &rows_from(number))).collect()
 }
 
 /// "the reader takes a file and writes the rows"
-pub fn matrix_read(file: &[u8], room: usize) -> Answer {
-    let mut conditions = file_conditions(file);
-    conditions.push((WRONG_LENGTH, room < ROW_SET_BYTES));
-    Answer::unless(&conditions, || rows_of_file(file))
+pub fn matrix_read(shape: Shape, file: &[u8], room: usize) -> Answer {
+    let mut conditions = file_conditions(shape, file);
+    conditions.push((WRONG_LENGTH, room < shape.row_set_bytes()));
+    Answer::unless(&conditions, || rows_of_file(shape, file))
 }

@@ -28,8 +28,11 @@ pub const UNUSED_BIT: u32 = 11;
 /// "a row is all zero"
 pub const ZERO_ROW: u32 = 12;
 /// "a source of 2^62 bytes or more (64 bits would not count its pairs), fewer
-/// than 768 pairs from the start, or fewer than 256 other than 3 after those"
+/// than 768 pairs from the start, or fewer than 256 other than 3 after those";
+/// "13's counts follow from n and t".
 pub const SHORT_SOURCE: u32 = 13;
+/// "A set other than 1 to 3 named at a call gives 14"
+pub const NO_SET: u32 = 14;
 
 /// A number of the table and whether its condition holds. A condition that
 /// can't be judged is given as not holding.

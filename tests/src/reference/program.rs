@@ -1,12 +1,11 @@
 //! "The program": both units, the dealer and join over one input.
 
-use super::bits::{part, STRING_BYTES};
-use super::dealer::{deal, tape_fits, DEALT_BYTES, TAPE_BYTES};
-use super::evaluator::{CODE_BYTES, CODE_PLANE};
-use super::frame::{DEAL_BYTES, OPEN_BYTES};
+use super::bits::{add, part};
+use super::dealer::{deal, tape_fits};
 use super::join::join;
-use super::matrix::{file_conditions, FILE_BYTES, ROWS};
+use super::matrix::file_conditions;
 use super::numbers::{Answer, DONE, UNFIT_TRIT, WRONG_LENGTH};
+use super::shape::{Shape, SET_1};
 use super::trits::trit;
 use super::unit::{begin, step};
 
@@ -18,6 +17,7 @@ pub const SESSION: u32 = 1;
 /// What a run is made of, besides its session and its list of steps.
 #[derive(Clone, Debug, PartialEq, Eq)]
 pub struct Inputs {
+    pub shape: Shape,
     pub key_halves: [Vec<u8>; 2],
     pub label_halves: [Vec<u8>; 2],
     pub tape: Vec<u8>,
@@ -26,13 +26,15 @@ pub struct Inputs {
 
 impl Inputs {
     /// "two key halves, two label halves, tape, matrix file"
-    pub fn read(input: &[u8]) -> Inputs {
-        let half = |i| part(input, STRING_BYTES * i, STRING_BYTES);
+    pub fn read(shape: Shape, input: &[u8]) -> Inputs {
+        let half = |i| part(input, shape.string_bytes() * i, shape.string_bytes());
+        let tape_at = 4 * shape.string_bytes();
         Inputs {
+            shape,
             key_halves: [half(0), half(1)],
             label_halves: [half(2), half(3)],
-            tape: part(input, 4 * STRING_BYTES, TAPE_BYTES),
-            file: part(input, 4 * STRING_BYTES + TAPE_BYTES, FILE_BYTES),
+            tape: part(input, tape_at, shape.tape_bytes()),
+            file: part(input, tape_at + shape.tape_bytes(), shape.file_bytes()),
         }
     }
 
@@ -41,20 +43,26 @@ impl Inputs {
         let halves = [self.key_halves.concat(), self.label_halves.concat()].concat();
         [&halves[..], &self.tape, &self.file].concat()
     }
+
+    /// "The run's key and label are the sums modulo 2 of its two halves of each".
+    pub fn key_and_label(&self) -> [Vec<u8>; 2] {
+        [&self.key_halves, &self.label_halves].map(|halves| add(self.shape, &halves[0], &halves[1]))
+    }
 }
 
 /// A whole run in turn: deal, beginnings, three steps of each unit, join. Any
 /// refusal on the way is the answer.
 pub fn run_units(inputs: &Inputs, session: u32) -> Answer {
-    let dealt = deal(session, &inputs.tape, DEALT_BYTES);
+    let shape = inputs.shape;
+    let dealt = deal(shape, session, &inputs.tape, shape.dealt_bytes());
     if dealt.number != DONE {
         return dealt;
     }
     let mut frames =
-        [part(&dealt.bytes, 0, DEAL_BYTES), part(&dealt.bytes, DEAL_BYTES, DEAL_BYTES)];
+        [0, 1].map(|side| part(&dealt.bytes, shape.deal_bytes() * side, shape.deal_bytes()));
     let begun = |side: usize| {
         let (key, label) = (&inputs.key_halves[side], &inputs.label_halves[side]);
-        begin(side as u32, session, key, label)
+        begin(shape, side as u32, session, key, label)
     };
     let [(number0, mut unit0), (number1, mut unit1)] = [begun(0), begun(1)];
     for number in [number0, number1] {
@@ -63,8 +71,8 @@ pub fn run_units(inputs: &Inputs, session: u32) -> Answer {
         }
     }
     for _ in 0..3 {
-        let step0 = step(&unit0, &frames[0], &inputs.file, OPEN_BYTES);
-        let step1 = step(&unit1, &frames[1], &inputs.file, OPEN_BYTES);
+        let step0 = step(&unit0, &frames[0], &inputs.file, shape.step_room());
+        let step1 = step(&unit1, &frames[1], &inputs.file, shape.step_room());
         if step0.number != DONE || step1.number != DONE {
             return Answer::refused(step0.number.max(step1.number));
         }
@@ -72,35 +80,36 @@ pub fn run_units(inputs: &Inputs, session: u32) -> Answer {
         // Each unit's frame is what the other takes next.
         frames = [step1.written, step0.written];
     }
-    join(&frames[1], &frames[0], CODE_BYTES)
+    join(shape, &frames[1], &frames[0], shape.code_bytes())
 }
 
 /// The program as one call: "the program counts as one call that reads all its
-/// input", so the lowest number is over tape and file together.
+/// input", so the lowest number is over tape and file together; "the program stays
+/// with set 1".
 pub fn pair_run(input: &[u8], room: usize) -> Answer {
-    if input.len() != INPUT_BYTES || room < CODE_BYTES {
+    if input.len() != INPUT_BYTES || room < SET_1.code_bytes() {
         return Answer::refused(WRONG_LENGTH);
     }
-    let inputs = Inputs::read(input);
-    let mut conditions = file_conditions(&inputs.file);
-    conditions.push((UNFIT_TRIT, !tape_fits(&inputs.tape)));
+    let inputs = Inputs::read(SET_1, input);
+    let mut conditions = file_conditions(SET_1, &inputs.file);
+    conditions.push((UNFIT_TRIT, !tape_fits(SET_1, &inputs.tape)));
     match Answer::unless(&conditions, Vec::new) {
         refusal if refusal.number != DONE => refusal,
         _ => run_units(&inputs, SESSION),
     }
 }
 
-/// "a line of 81 digits, digit 0 first"
-pub fn digits(code: &[u8]) -> String {
-    (0..ROWS).map(|i| char::from(b'0' + trit(code, CODE_PLANE, i))).collect()
+/// "a line of 81 digits, digit 0 first", or of another set's.
+pub fn digits(shape: Shape, code: &[u8]) -> String {
+    (0..shape.digits).map(|i| char::from(b'0' + trit(code, shape.code_plane(), i))).collect()
 }
 
 /// "prints `result 0`, then a line of 81 digits, digit 0 first. A refusal prints
 /// `result N` only."
 pub fn program(input: &[u8]) -> String {
-    let answer = pair_run(input, CODE_BYTES);
+    let answer = pair_run(input, SET_1.code_bytes());
     match answer.number {
-        DONE => format!("result 0\n{}\n", digits(&answer.bytes)),
+        DONE => format!("result 0\n{}\n", digits(SET_1, &answer.bytes)),
         number => format!("result {number}\n"),
     }
 }

@@ -1,18 +1,16 @@
 //! "The unit": state, beginning and step.
 
-use super::bits::{add, multiply, part, STRING_BYTES};
-use super::dealer::{Deal, VECTOR_TRITS};
+use super::bits::{add, multiply, part};
+use super::dealer::Deal;
 use super::evaluator::code_of;
 use super::frame::{frame_of, read_frame, Frame, DEAL, MASK, OPEN, SHARE};
 use super::matrix::file_conditions;
 use super::numbers::{
-    lowest, Condition, DONE, NOT_WAITED_FOR, NO_SIDE, OTHER_SESSION, OTHER_SIDE, UNFIT_TRIT,
-    WRONG_LENGTH,
+    lowest, Condition, DONE, NOT_WAITED_FOR, NO_SET, NO_SIDE, OTHER_SESSION, OTHER_SIDE,
+    UNFIT_TRIT, WRONG_LENGTH,
 };
+use super::shape::{Shape, SET_1};
 use super::trits::{inner_share, trits_fit};
-
-/// "an output slice is shorter than what may be written (step: 70)"
-pub const STEP_ROOM: usize = 70;
 
 /// What a unit waits for, or why it waits for nothing.
 #[derive(Clone, Copy, Debug, PartialEq, Eq)]
@@ -25,9 +23,11 @@ pub enum Stage {
 }
 
 /// "The state holds side, session, stage, the two halves, the deal and what
-/// later steps need": its own mask. What is not yet known is zero.
+/// later steps need": its own mask. What is not yet known is zero. "The state
+/// keeps its set".
 #[derive(Clone, Debug, PartialEq, Eq)]
 pub struct State {
+    pub shape: Shape,
     pub side: u8,
     pub session: u32,
     pub stage: Stage,
@@ -47,22 +47,23 @@ pub struct Step {
 
 impl State {
     /// A state with "zeros for all else" than these.
-    pub fn bare(side: u8, session: u32, stage: Stage) -> State {
+    pub fn bare(shape: Shape, side: u8, session: u32, stage: Stage) -> State {
         State {
+            shape,
             side,
             session,
             stage,
-            key_half: vec![0; STRING_BYTES],
-            label_half: vec![0; STRING_BYTES],
-            deal: Deal::none(),
-            mask: vec![0; STRING_BYTES],
+            key_half: vec![0; shape.string_bytes()],
+            label_half: vec![0; shape.string_bytes()],
+            deal: Deal::none(shape),
+            mask: vec![0; shape.string_bytes()],
         }
     }
 
     /// "an idle state, side 0 and session 0 with zeros for all else but the
-    /// stage"
+    /// stage" and the set ("idle: 1"), whichever was named
     pub fn idle() -> State {
-        State::bare(0, 0, Stage::Idle)
+        State::bare(SET_1, 0, 0, Stage::Idle)
     }
 
     /// The kind waited for; "Done and idle wait for no kind".
@@ -77,34 +78,35 @@ impl State {
 
     /// "key half + K̃i, label half + x̃i, modulo 2"
     fn open_body(&self) -> Vec<u8> {
-        let key = add(&self.key_half, &self.deal.key_mask);
-        let label = add(&self.label_half, &self.deal.label_mask);
+        let key = add(self.shape, &self.key_half, &self.deal.key_mask);
+        let label = add(self.shape, &self.label_half, &self.deal.label_mask);
         [key, label].concat()
     }
 
     /// "ŵi = K̂ × x̃i + K̃i × x̂ + zi modulo 2; side 0 also adds K̂ × x̂", with "K̂
     /// and x̂ the sums modulo 2 of both open bodies".
     fn mask_body(&self, other_open: &[u8]) -> Vec<u8> {
-        let own_open = self.open_body();
+        let (shape, own_open) = (self.shape, self.open_body());
         let summed = |start| {
-            let own = part(&own_open, start, STRING_BYTES);
-            add(&own, &part(other_open, start, STRING_BYTES))
+            let [own, other] =
+                [&own_open[..], other_open].map(|body| part(body, start, shape.string_bytes()));
+            add(shape, &own, &other)
         };
-        let (key, label) = (summed(0), summed(STRING_BYTES));
-        let cross_label = multiply(&key, &self.deal.label_mask);
-        let cross_key = multiply(&self.deal.key_mask, &label);
-        let mask = add(&add(&cross_label, &cross_key), &self.deal.z);
+        let (key, label) = (summed(0), summed(shape.string_bytes()));
+        let cross_label = multiply(shape, &key, &self.deal.label_mask);
+        let cross_key = multiply(shape, &self.deal.key_mask, &label);
+        let mask = add(shape, &add(shape, &cross_label, &cross_key), &self.deal.z);
         match self.side {
-            0 => add(&mask, &multiply(&key, &label)),
+            0 => add(shape, &mask, &multiply(shape, &key, &label)),
             _ => mask,
         }
     }
 
     /// "Its code share is B times that", the inner share for "ŵ = ŵ0 + ŵ1".
     fn share_body(&self, other_mask: &[u8], file: &[u8]) -> Vec<u8> {
-        let summed = add(&self.mask, other_mask);
-        let inner = inner_share(self.side, &summed, &self.deal.r, STRING_BYTES);
-        code_of(&inner, file)
+        let summed = add(self.shape, &self.mask, other_mask);
+        let inner = inner_share(self.side, &summed, &self.deal.r, self.shape.string_bytes());
+        code_of(self.shape, &inner, file)
     }
 }
 
@@ -118,8 +120,14 @@ pub fn other_side(side: u8) -> u8 {
 
 /// "The beginning takes side, session, key half and label half"; "A refused
 /// beginning gives an idle state".
-pub fn begin(side: u32, session: u32, key_half: &[u8], label_half: &[u8]) -> (u32, State) {
-    let wrong = key_half.len() != STRING_BYTES || label_half.len() != STRING_BYTES;
+pub fn begin(
+    shape: Shape,
+    side: u32,
+    session: u32,
+    key_half: &[u8],
+    label_half: &[u8],
+) -> (u32, State) {
+    let wrong = [key_half, label_half].iter().any(|half| half.len() != shape.string_bytes());
     let number = lowest(&[(WRONG_LENGTH, wrong), (NO_SIDE, side > 1)]);
     if number != DONE {
         return (number, State::idle());
@@ -127,9 +135,23 @@ pub fn begin(side: u32, session: u32, key_half: &[u8], label_half: &[u8]) -> (u3
     let begun = State {
         key_half: key_half.to_vec(),
         label_half: label_half.to_vec(),
-        ..State::bare(side as u8, session, Stage::WaitsForDeal)
+        ..State::bare(shape, side as u8, session, Stage::WaitsForDeal)
     };
     (DONE, begun)
+}
+
+/// The beginning by the number of a set; 14 comes before its other numbers.
+pub fn begin_with_set(
+    set: u32,
+    side: u32,
+    session: u32,
+    key_half: &[u8],
+    label_half: &[u8],
+) -> (u32, State) {
+    match Shape::named(set) {
+        Some(shape) => begin(shape, side, session, key_half, label_half),
+        None => (NO_SET, State::idle()),
+    }
 }
 
 /// 5, 6, 7 and a deal's 10, of a frame that was read.
@@ -138,7 +160,8 @@ fn frame_conditions(state: &State, frame: &Frame) -> [Condition; 4] {
         DEAL => state.side,
         _ => other_side(state.side),
     };
-    let unfit = frame.kind == DEAL && !trits_fit(&Deal::read(&frame.body).r, VECTOR_TRITS);
+    let fits = || trits_fit(&Deal::read(state.shape, &frame.body).r, state.shape.bits);
+    let unfit = frame.kind == DEAL && !fits();
     [
         (OTHER_SESSION, frame.session != state.session),
         (OTHER_SIDE, frame.side != side),
@@ -150,11 +173,11 @@ fn frame_conditions(state: &State, frame: &Frame) -> [Condition; 4] {
 /// The lowest number of a step; "A step reads the matrix file only if the
 /// frame's first byte is 3."
 pub fn step_number(state: &State, frame: &[u8], file: &[u8], room: usize) -> u32 {
-    let mut conditions = vec![(WRONG_LENGTH, room < STEP_ROOM)];
+    let mut conditions = vec![(WRONG_LENGTH, room < state.shape.step_room())];
     if frame.first() == Some(&MASK) {
-        conditions.extend(file_conditions(file));
+        conditions.extend(file_conditions(state.shape, file));
     }
-    match read_frame(frame, &[DEAL, OPEN, MASK]) {
+    match read_frame(state.shape, frame, &[DEAL, OPEN, MASK]) {
         Ok(read) => conditions.extend(frame_conditions(state, &read)),
         Err(number) => conditions.push((number, true)),
     }
@@ -165,7 +188,7 @@ pub fn step_number(state: &State, frame: &[u8], file: &[u8], room: usize) -> u32
 /// state."
 pub fn step(state: &State, frame: &[u8], file: &[u8], room: usize) -> Step {
     let number = step_number(state, frame, file, room);
-    match read_frame(frame, &[DEAL, OPEN, MASK]) {
+    match read_frame(state.shape, frame, &[DEAL, OPEN, MASK]) {
         Ok(read) if number == DONE => accepted(state, &read, file),
         _ => Step { number, written: Vec::new(), next: state.clone() },
     }
@@ -178,9 +201,9 @@ fn accepted(state: &State, frame: &Frame, file: &[u8]) -> Step {
     let mut next = state.clone();
     let (kind, body) = match frame.kind {
         DEAL => {
-            next.deal = Deal::read(&frame.body);
+            next.deal = Deal::read(state.shape, &frame.body);
             // No mask is known yet, whatever the state held.
-            next.mask = vec![0; STRING_BYTES];
+            next.mask = vec![0; state.shape.string_bytes()];
             next.stage = Stage::WaitsForOpen;
             (OPEN, next.open_body())
         }
@@ -190,7 +213,7 @@ fn accepted(state: &State, frame: &Frame, file: &[u8]) -> Step {
             (MASK, next.mask.clone())
         }
         _ => {
-            next = State::bare(state.side, state.session, Stage::Done);
+            next = State::bare(state.shape, state.side, state.session, Stage::Done);
             (SHARE, state.share_body(&frame.body, file))
         }
     };

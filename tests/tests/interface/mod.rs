@@ -19,10 +19,11 @@ mod linked {
 
     #[link(name = "protocol", kind = "static")]
     extern "C" {
-        pub fn pair_matrix_check(file: In, n: Length) -> u32;
-        pub fn pair_matrix_write(rows: In, n: Length, out: Out, room: Length) -> u32;
-        pub fn pair_matrix_read(file: In, n: Length, out: Out, room: Length) -> u32;
+        pub fn pair_matrix_check(set: u32, file: In, n: Length) -> u32;
+        pub fn pair_matrix_write(set: u32, rows: In, n: Length, out: Out, room: Length) -> u32;
+        pub fn pair_matrix_read(set: u32, file: In, n: Length, out: Out, room: Length) -> u32;
         pub fn pair_evaluate(
+            set: u32,
             key: In,
             key_length: Length,
             label: In,
@@ -33,6 +34,7 @@ mod linked {
             room: Length,
         ) -> u32;
         pub fn pair_sample(
+            set: u32,
             start: u64,
             source: In,
             source_length: Length,
@@ -40,8 +42,16 @@ mod linked {
             room: Length,
             next: *mut u64,
         ) -> u32;
-        pub fn pair_deal(session: u32, tape: In, n: Length, out: Out, room: Length) -> u32;
+        pub fn pair_deal(
+            set: u32,
+            session: u32,
+            tape: In,
+            n: Length,
+            out: Out,
+            room: Length,
+        ) -> u32;
         pub fn pair_deal_source(
+            set: u32,
             session: u32,
             start: u64,
             source: In,
@@ -51,6 +61,7 @@ mod linked {
             next: *mut u64,
         ) -> u32;
         pub fn pair_begin(
+            set: u32,
             side: u32,
             session: u32,
             key_half: In,
@@ -72,6 +83,7 @@ mod linked {
             written: *mut u64,
         ) -> u32;
         pub fn pair_join(
+            set: u32,
             share0: In,
             length0: Length,
             share1: In,
@@ -86,23 +98,24 @@ mod linked {
 // Each wrapper below is sound because every slice goes with its own length, and
 // slices and counts that are written are lent alone.
 
-pub fn matrix_check(file: &[u8]) -> u32 {
-    unsafe { linked::pair_matrix_check(file.as_ptr(), file.len()) }
+pub fn matrix_check(set: u32, file: &[u8]) -> u32 {
+    unsafe { linked::pair_matrix_check(set, file.as_ptr(), file.len()) }
 }
 
-pub fn matrix_write(rows: &[u8], out: &mut [u8]) -> u32 {
+pub fn matrix_write(set: u32, rows: &[u8], out: &mut [u8]) -> u32 {
     let (output, room) = (out.as_mut_ptr(), out.len());
-    unsafe { linked::pair_matrix_write(rows.as_ptr(), rows.len(), output, room) }
+    unsafe { linked::pair_matrix_write(set, rows.as_ptr(), rows.len(), output, room) }
 }
 
-pub fn matrix_read(file: &[u8], out: &mut [u8]) -> u32 {
+pub fn matrix_read(set: u32, file: &[u8], out: &mut [u8]) -> u32 {
     let (output, room) = (out.as_mut_ptr(), out.len());
-    unsafe { linked::pair_matrix_read(file.as_ptr(), file.len(), output, room) }
+    unsafe { linked::pair_matrix_read(set, file.as_ptr(), file.len(), output, room) }
 }
 
-pub fn evaluate(key: &[u8], label: &[u8], file: &[u8], out: &mut [u8]) -> u32 {
+pub fn evaluate(set: u32, key: &[u8], label: &[u8], file: &[u8], out: &mut [u8]) -> u32 {
     unsafe {
         linked::pair_evaluate(
+            set,
             key.as_ptr(),
             key.len(),
             label.as_ptr(),
@@ -115,19 +128,27 @@ pub fn evaluate(key: &[u8], label: &[u8], file: &[u8], out: &mut [u8]) -> u32 {
     }
 }
 
-pub fn sample(start: u64, source: &[u8], out: &mut [u8], next: &mut u64) -> u32 {
+pub fn sample(set: u32, start: u64, source: &[u8], out: &mut [u8], next: &mut u64) -> u32 {
     let (output, room) = (out.as_mut_ptr(), out.len());
-    unsafe { linked::pair_sample(start, source.as_ptr(), source.len(), output, room, next) }
+    unsafe { linked::pair_sample(set, start, source.as_ptr(), source.len(), output, room, next) }
 }
 
-pub fn deal(session: u32, tape: &[u8], out: &mut [u8]) -> u32 {
+pub fn deal(set: u32, session: u32, tape: &[u8], out: &mut [u8]) -> u32 {
     let (output, room) = (out.as_mut_ptr(), out.len());
-    unsafe { linked::pair_deal(session, tape.as_ptr(), tape.len(), output, room) }
+    unsafe { linked::pair_deal(set, session, tape.as_ptr(), tape.len(), output, room) }
 }
 
-pub fn deal_source(session: u32, start: u64, source: &[u8], out: &mut [u8], next: &mut u64) -> u32 {
+pub fn deal_source(
+    set: u32,
+    session: u32,
+    start: u64,
+    source: &[u8],
+    out: &mut [u8],
+    next: &mut u64,
+) -> u32 {
     unsafe {
         linked::pair_deal_source(
+            set,
             session,
             start,
             source.as_ptr(),
@@ -139,9 +160,10 @@ pub fn deal_source(session: u32, start: u64, source: &[u8], out: &mut [u8], next
     }
 }
 
-pub fn begin(side: u32, session: u32, key: &[u8], label: &[u8], state: &mut [u8]) -> u32 {
+pub fn begin(set: u32, side: u32, session: u32, key: &[u8], label: &[u8], state: &mut [u8]) -> u32 {
     unsafe {
         linked::pair_begin(
+            set,
             side,
             session,
             key.as_ptr(),
@@ -170,10 +192,10 @@ pub fn step(state: &mut [u8], frame: &[u8], file: &[u8], out: &mut [u8], written
     }
 }
 
-pub fn join(share0: &[u8], share1: &[u8], out: &mut [u8]) -> u32 {
+pub fn join(set: u32, share0: &[u8], share1: &[u8], out: &mut [u8]) -> u32 {
     let (first, second) = (share0.as_ptr(), share1.as_ptr());
     let (output, room) = (out.as_mut_ptr(), out.len());
-    unsafe { linked::pair_join(first, share0.len(), second, share1.len(), output, room) }
+    unsafe { linked::pair_join(set, first, share0.len(), second, share1.len(), output, room) }
 }
 
 pub fn run(input: &[u8], out: &mut [u8]) -> u32 {

@@ -1,17 +1,20 @@
 //! Strange things to lend to a step: frames, files and output lengths.
 
 use service_pair_tests::random::Random;
-use service_pair_tests::reference::frame::{frame_of, length_of_kind, DEAL};
-use service_pair_tests::samples::{change, damage_file, set_both_bits, FILE_FAULTS};
-
-/// Where r stands in a deal frame.
-const R_IN_DEAL: usize = 102;
+use service_pair_tests::reference::frame::{frame_of, length_of_kind, DEAL, HEADER_BYTES};
+use service_pair_tests::reference::shape::{Shape, SETS};
+use service_pair_tests::samples::{change, damage_file, fit_file, set_both_bits, FILE_FAULTS};
 
 /// A frame of a known run repeated, cut, lengthened or changed, or one made up.
-pub fn strange_frame(random: &mut Random, known: &[Vec<u8>], session: u32) -> Vec<u8> {
+pub fn strange_frame(
+    random: &mut Random,
+    shape: Shape,
+    known: &[Vec<u8>],
+    session: u32,
+) -> Vec<u8> {
     let mut frame = match known.get(random.below(known.len() + 1)) {
         Some(frame) => frame.clone(),
-        None => made_up_frame(random, session),
+        None => made_up_frame(random, shape, session),
     };
     let length = frame.len();
     match random.below(10) {
@@ -19,16 +22,18 @@ pub fn strange_frame(random: &mut Random, known: &[Vec<u8>], session: u32) -> Ve
         2 => frame.truncate(random.below(length)),
         3 => frame.resize(length + 1 + random.below(40), random.byte()),
         4 => flip(random, &mut frame, length),
-        5 => flip(random, &mut frame, 6),
+        5 => flip(random, &mut frame, HEADER_BYTES),
         6 => {
-            let place = random.below(6);
+            let place = random.below(HEADER_BYTES);
             change(random, &mut frame, place);
         }
         7 => (0..4).for_each(|_| flip(random, &mut frame, length)),
-        8 if frame.first() == Some(&DEAL) => set_both_bits(random, &mut frame, R_IN_DEAL),
+        8 if frame.first() == Some(&DEAL) => {
+            set_both_bits(random, shape, &mut frame, shape.r_in_deal());
+        }
         8 => frame.clear(),
         _ => {
-            let length = random.below(200);
+            let length = random.below(shape.deal_bytes() + 40);
             frame = random.contents(length);
         }
     }
@@ -43,34 +48,42 @@ fn flip(random: &mut Random, frame: &mut [u8], length: usize) {
     }
 }
 
-/// A header near the right ones and a random body, mostly of its kind's length.
-fn made_up_frame(random: &mut Random, session: u32) -> Vec<u8> {
+/// A header near the right ones and a random body, mostly of its kind's length, now
+/// and then of another set's.
+fn made_up_frame(random: &mut Random, shape: Shape, session: u32) -> Vec<u8> {
     let (kind, side) = (random.below(6) as u8, random.below(3) as u8);
     let session = match random.below(4) {
         0 => random.session(),
         1 => session ^ (1 << random.below(32)),
         _ => session,
     };
-    let length = match length_of_kind(kind) {
-        Some(length) if !random.once_in(6) => length - 6,
+    let shape = if random.once_in(6) { random.choose(&SETS) } else { shape };
+    let length = match length_of_kind(shape, kind) {
+        Some(length) if !random.once_in(6) => length - HEADER_BYTES,
         _ => random.below(200),
     };
     frame_of(kind, side, session, &random.contents(length))
 }
 
-/// The run's file, or another: empty, cut, lengthened, damaged or random.
-pub fn strange_file(random: &mut Random, file: &[u8]) -> Vec<u8> {
+/// The run's file, or another: empty, cut, lengthened, damaged, random or of
+/// another set.
+pub fn strange_file(random: &mut Random, shape: Shape, file: &[u8]) -> Vec<u8> {
     let mut strange = file.to_vec();
     let length = strange.len();
-    match random.below(12) {
+    match random.below(13) {
         0 => strange.clear(),
         1 => strange.truncate(length - 1),
         2 => strange.push(random.byte()),
         3 => strange = random.contents(length),
-        4..=7 => {
+        4 => {
+            let others = SETS.into_iter().filter(|other| *other != shape);
+            let other = random.choose(&others.collect::<Vec<_>>());
+            strange = fit_file(random, other);
+        }
+        5..=8 => {
             let faults = [random.choose(&FILE_FAULTS), random.choose(&FILE_FAULTS)];
             let count = 1 + random.below(2);
-            damage_file(random, &mut strange, &faults[..count]);
+            damage_file(random, shape, &mut strange, &faults[..count]);
         }
         _ => {}
     }
@@ -78,11 +91,12 @@ pub fn strange_file(random: &mut Random, file: &[u8]) -> Vec<u8> {
 }
 
 /// An output slice that is mostly long enough.
-pub fn strange_room(random: &mut Random) -> usize {
+pub fn strange_room(random: &mut Random, shape: Shape) -> usize {
+    let least = shape.step_room();
     match random.below(8) {
-        0 => random.below(70),
-        1 => 69,
-        2 => 70,
-        _ => 70 + random.below(50),
+        0 => random.below(least),
+        1 => least - 1,
+        2 => least,
+        _ => least + random.below(50),
     }
 }

@@ -8,6 +8,7 @@ mod interface;
 mod join;
 mod runs;
 mod sampler;
+mod sets;
 mod states;
 mod unit;
 mod views;

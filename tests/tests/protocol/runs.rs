@@ -4,28 +4,28 @@
 use crate::interface;
 use crate::unit::{Lent, Run};
 use service_pair_tests::random::{report, seed, Random};
-use service_pair_tests::reference::bits::add;
 use service_pair_tests::reference::evaluator::code;
+use service_pair_tests::reference::frame::{HEADER_BYTES, MASK};
 use service_pair_tests::reference::program::Inputs;
+use service_pair_tests::reference::shape::{Shape, SETS};
 use service_pair_tests::reference::unit::{Stage, State};
-use service_pair_tests::samples::fit_inputs;
+use service_pair_tests::samples::{fit_inputs, lengths_of_sets};
 use service_pair_tests::state_layout::encode;
 
 /// The code that a run owes: "the code of these with its matrix".
 fn own_code(inputs: &Inputs) -> Vec<u8> {
-    let [key, label] =
-        [&inputs.key_halves, &inputs.label_halves].map(|halves| add(&halves[0], &halves[1]));
-    code(&key, &label, &inputs.file)
+    let [key, label] = inputs.key_and_label();
+    code(inputs.shape, &key, &label, &inputs.file)
 }
 
 /// Joins the shares of a run in which only sent frames were accepted.
 fn join_shares(run: &Run) {
-    let [share0, share1] = [&run.sent[0][2], &run.sent[1][2]];
-    let mut joined = vec![0; 22];
-    assert_eq!(interface::join(share0, share1, &mut joined), 0, "SEED={}", seed());
+    let (shape, [share0, share1]) = (run.inputs.shape, [&run.sent[0][2], &run.sent[1][2]]);
+    let mut joined = vec![0; shape.code_bytes()];
+    assert_eq!(interface::join(shape.set, share0, share1, &mut joined), 0, "SEED={}", seed());
     assert_eq!(joined, own_code(&run.inputs), "the joined code, SEED={}", seed());
     for (side, unit) in run.units.iter().enumerate() {
-        let done = State::bare(side as u8, run.session, Stage::Done);
+        let done = State::bare(shape, side as u8, run.session, Stage::Done);
         assert_eq!(unit.bytes, encode(&done), "a done state, SEED={}", seed());
         assert_eq!(run.sent[side].len(), 3, "three accepted frames, SEED={}", seed());
     }
@@ -34,9 +34,9 @@ fn join_shares(run: &Run) {
 #[test]
 fn runs_in_turn_give_the_code() {
     let mut random = Random::for_test("runs in turn");
-    let count = 200;
-    for _ in 0..count {
-        let inputs = fit_inputs(&mut random);
+    let count = 180;
+    for trial in 0..count {
+        let inputs = fit_inputs(&mut random, SETS[trial % SETS.len()]);
         let mut run = Run::start(inputs, random.session());
         while !run.both_done() {
             let side = random.below(2);
@@ -70,17 +70,22 @@ fn any_entry(random: &mut Random, run: &Run, side: usize) -> (Lent, bool) {
 #[test]
 fn strange_entries_change_nothing() {
     let mut random = Random::for_test("strange entries");
-    let (runs, mut entries, mut whole) = (300, 0, 0);
+    SETS.into_iter().for_each(|shape| strange_entries(&mut random, shape));
+}
+
+/// The same in one set.
+fn strange_entries(random: &mut Random, shape: Shape) {
+    let (runs, mut entries, mut whole) = (100, 0, 0);
     let mut seen = [0usize; 14];
     for _ in 0..runs {
-        let inputs = fit_inputs(&mut random);
+        let inputs = fit_inputs(random, shape);
         let mut run = Run::start(inputs, random.session());
         let mut spoiled = false;
         for _ in 0..60 {
             let side = random.below(2);
-            let (lent, foreign) = any_entry(&mut random, &run, side);
+            let (lent, foreign) = any_entry(random, &run, side);
             spoiled |= foreign;
-            seen[run.step(&mut random, side, &lent).number as usize] += 1;
+            seen[run.step(random, side, &lent).number as usize] += 1;
             entries += 1;
         }
         if run.both_done() && !spoiled {
@@ -92,7 +97,8 @@ fn strange_entries_change_nothing() {
         assert!(seen[number] > 0, "no step gave {number}, SEED={}", seed());
     }
     assert!(whole > runs / 10, "only {whole} of {runs} runs came to their end");
-    report(&format!("protocol: steps of {runs} runs with strange entries"), entries);
+    let set = shape.set;
+    report(&format!("protocol: set {set}, steps of {runs} runs with strange entries"), entries);
     report("protocol: of these runs, brought to their code", whole);
 }
 
@@ -101,30 +107,99 @@ fn strange_entries_change_nothing() {
 #[test]
 fn every_flipped_bit_and_cut_of_awaited_frames() {
     let mut random = Random::for_test("flips and cuts");
-    let mut run = Run::start(fit_inputs(&mut random), 0x0102_0304);
+    let tried: usize = SETS.map(|shape| flips_and_cuts(&mut random, shape)).into_iter().sum();
+    report("protocol: flipped and cut frames at each stage", tried);
+}
+
+/// The same in one set, where the largest bodies have one bit in three flipped.
+fn flips_and_cuts(random: &mut Random, shape: Shape) -> usize {
+    let mut run = Run::start(fit_inputs(random, shape), 0x0102_0304);
     let mut tried = 0;
     for turn in 0..6 {
         let side = turn % 2;
-        let lent = run.as_sent(&mut random, side).expect("the frame was sent");
-        for length in 0..lent.frame.len() + 40 {
+        let lent = run.as_sent(random, side).expect("the frame was sent");
+        let lengths = lengths_of_sets(Shape::deal_bytes);
+        for length in (0..lent.frame.len() + 40).chain(lengths) {
             let mut frame = lent.frame.clone();
             frame.resize(length, 0);
             let cut = Lent { frame, ..lent.clone() };
-            let refused = run.clone().step(&mut random, side, &cut).number != 0;
+            let refused = run.clone().step(random, side, &cut).number != 0;
             assert_eq!(refused, length != lent.frame.len(), "SEED={}", seed());
             tried += 1;
         }
-        for place in 0..8 * lent.frame.len() {
+        let header = 8 * HEADER_BYTES;
+        let body = (header..8 * lent.frame.len()).step_by(2 * (shape.bits / 512) + 1);
+        for place in (0..header).chain(body) {
             let mut flipped = lent.clone();
             flipped.frame[place / 8] ^= 1 << (place % 8);
-            let refused = run.clone().step(&mut random, side, &flipped).number != 0;
-            assert!(refused || place >= 48, "a flipped header, SEED={}", seed());
+            let refused = run.clone().step(random, side, &flipped).number != 0;
+            assert!(refused || place >= header, "a flipped header, SEED={}", seed());
             tried += 1;
         }
-        run.step(&mut random, side, &lent);
+        run.step(random, side, &lent);
     }
     join_shares(&run);
-    report("protocol: flipped and cut frames at each stage", tried);
+    tried
+}
+
+/// The least output slice is that of the state's set, at each stage.
+#[test]
+fn output_lengths_of_every_set() {
+    let mut random = Random::for_test("step outputs");
+    let mut tried = 0;
+    for shape in SETS {
+        let mut run = Run::start(fit_inputs(&mut random, shape), 7);
+        for turn in 0..6 {
+            let side = turn % 2;
+            let lent = run.as_sent(&mut random, side).expect("the frame was sent");
+            for room in lengths_of_sets(Shape::step_room) {
+                let lent = Lent { room, ..lent.clone() };
+                let number = run.clone().step(&mut random, side, &lent).number;
+                assert_eq!(number, u32::from(room < shape.step_room()), "SEED={}", seed());
+                tried += 1;
+            }
+            let least = Lent { room: shape.step_room(), ..lent };
+            assert_eq!(run.step(&mut random, side, &least).number, 0, "SEED={}", seed());
+        }
+        join_shares(&run);
+    }
+    report("protocol: output slices of steps", tried);
+}
+
+/// Frames carry no set: another set's has another length, at each stage, and a
+/// file of another set is 1 where it is read.
+#[test]
+fn frames_and_files_of_another_set() {
+    let mut random = Random::for_test("frames of another set");
+    let mut tried = 0;
+    let wholes = SETS.map(|shape| {
+        let inputs = fit_inputs(&mut random, shape);
+        Run::whole(&mut random, inputs, 7)
+    });
+    for shape in SETS {
+        let mut run = Run::start(fit_inputs(&mut random, shape), 7);
+        for turn in 0..6 {
+            let side = turn % 2;
+            let lent = run.as_sent(&mut random, side).expect("the frame was sent");
+            for other in wholes.iter().filter(|other| other.inputs.shape != shape) {
+                // Frames of kinds 1 to 3; the last of each unit is its share.
+                let sent = other.sent.iter().flat_map(|sent| &sent[..2]);
+                for frame in other.deals.iter().chain(sent) {
+                    let file = run.inputs.file.clone();
+                    let lent = Lent { frame: frame.clone(), file, ..lent.clone() };
+                    assert_eq!(run.step(&mut random, side, &lent).number, 4, "SEED={}", seed());
+                    tried += 1;
+                }
+                let lent = Lent { file: other.inputs.file.clone(), ..lent.clone() };
+                let number = run.clone().step(&mut random, side, &lent).number;
+                assert_eq!(number, u32::from(lent.frame[0] == MASK), "SEED={}", seed());
+                tried += 1;
+            }
+            run.step(&mut random, side, &lent);
+        }
+        join_shares(&run);
+    }
+    report("protocol: frames and files of another set", tried);
 }
 
 /// Done and idle units take nothing: all frames of the run, again and again.
@@ -132,16 +207,14 @@ fn every_flipped_bit_and_cut_of_awaited_frames() {
 fn done_units_take_no_frame() {
     let mut random = Random::for_test("done units");
     let mut tried = 0;
-    for _ in 0..40 {
-        let mut run = Run::start(fit_inputs(&mut random), random.session());
-        for turn in 0..6 {
-            let lent = run.as_sent(&mut random, turn % 2).expect("the frame was sent");
-            run.step(&mut random, turn % 2, &lent);
-        }
-        let frames = [&run.deals[..], &run.sent[0], &run.sent[1]].concat();
-        for frame in frames {
+    for trial in 0..30 {
+        let shape = SETS[trial % SETS.len()];
+        let (inputs, session) = (fit_inputs(&mut random, shape), random.session());
+        let mut run = Run::whole(&mut random, inputs, session);
+        for frame in run.frames() {
             for side in 0..2 {
-                let lent = Lent { frame: frame.clone(), file: run.inputs.file.clone(), room: 70 };
+                let (frame, file) = (frame.clone(), run.inputs.file.clone());
+                let lent = Lent { frame, file, room: shape.step_room() };
                 assert_ne!(run.step(&mut random, side, &lent).number, 0, "SEED={}", seed());
                 tried += 1;
             }

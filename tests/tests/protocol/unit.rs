@@ -5,7 +5,6 @@ use crate::frames::{strange_file, strange_frame, strange_room};
 use crate::interface;
 use service_pair_tests::guarded::{compare_bytes, Guarded};
 use service_pair_tests::random::{seed, Random};
-use service_pair_tests::reference::frame::DEAL_BYTES;
 use service_pair_tests::reference::numbers::DONE;
 use service_pair_tests::reference::program::Inputs;
 use service_pair_tests::reference::unit::{self, Stage, State};
@@ -38,9 +37,10 @@ impl Unit {
     /// An accepted beginning of both.
     pub fn begin(side: usize, session: u32, inputs: &Inputs) -> Unit {
         let (key, label) = (&inputs.key_halves[side], &inputs.label_halves[side]);
+        let (shape, side) = (inputs.shape, side as u32);
         let mut bytes = vec![0xa5; STATE_BYTES];
-        let number = interface::begin(side as u32, session, key, label, &mut bytes);
-        let (expected, state) = unit::begin(side as u32, session, key, label);
+        let number = interface::begin(shape.set, side, session, key, label, &mut bytes);
+        let (expected, state) = unit::begin(shape, side, session, key, label);
         assert_eq!((number, expected), (DONE, DONE), "pair_begin, SEED={}", seed());
         assert_eq!(bytes, encode(&state), "the begun state, SEED={}", seed());
         Unit { bytes, state }
@@ -85,10 +85,12 @@ pub struct Run {
 impl Run {
     /// "A run starts with the deal of its session and tape and with two units".
     pub fn start(inputs: Inputs, session: u32) -> Run {
-        let mut dealt = vec![0; 2 * DEAL_BYTES];
-        let number = interface::deal(session, &inputs.tape, &mut dealt);
+        let shape = inputs.shape;
+        let mut dealt = vec![0; shape.dealt_bytes()];
+        let number = interface::deal(shape.set, session, &inputs.tape, &mut dealt);
         assert_eq!(number, DONE, "pair_deal of an accepted tape, SEED={}", seed());
-        let deals = [dealt[..DEAL_BYTES].to_vec(), dealt[DEAL_BYTES..].to_vec()];
+        let (deal0, deal1) = dealt.split_at(shape.deal_bytes());
+        let deals = [deal0.to_vec(), deal1.to_vec()];
         let units = [0, 1].map(|side| Unit::begin(side, session, &inputs));
         Run { inputs, session, deals, units, sent: [Vec::new(), Vec::new()] }
     }
@@ -110,22 +112,27 @@ impl Run {
         let frame = self.awaited(side)?.clone();
         let file = match self.units[side].state.stage {
             Stage::WaitsForMask => self.inputs.file.clone(),
-            _ => strange_file(random, &self.inputs.file),
+            _ => strange_file(random, self.inputs.shape, &self.inputs.file),
         };
-        Some(Lent { frame, file, room: 70 + random.below(40) })
+        Some(Lent { frame, file, room: self.inputs.shape.step_room() + random.below(40) })
     }
 
     /// Anything: the frame waited for or another of this run, whole or not, or
     /// one of no run; fit files or not.
     pub fn anything(&self, random: &mut Random, side: usize) -> Lent {
-        let known = [&self.deals[..], &self.sent[0], &self.sent[1]].concat();
+        let (shape, known) = (self.inputs.shape, self.frames());
         let frame = match self.awaited(side) {
             // The right frame, so that it is the file or the slice that is not.
             Some(frame) if random.once_in(4) => frame.clone(),
-            _ => strange_frame(random, &known, self.session),
+            _ => strange_frame(random, shape, &known, self.session),
         };
-        let file = strange_file(random, &self.inputs.file);
-        Lent { frame, file, room: strange_room(random) }
+        let file = strange_file(random, shape, &self.inputs.file);
+        Lent { frame, file, room: strange_room(random, shape) }
+    }
+
+    /// Every frame of the run that was written.
+    pub fn frames(&self) -> Vec<Vec<u8>> {
+        [&self.deals[..], &self.sent[0], &self.sent[1]].concat()
     }
 
     /// Whether a frame is the one that the unit waits for.
@@ -146,6 +153,16 @@ impl Run {
             self.sent[side].push(outcome.written.clone());
         }
         outcome
+    }
+
+    /// A whole run, each unit's entries as sent and in turn.
+    pub fn whole(random: &mut Random, inputs: Inputs, session: u32) -> Run {
+        let mut run = Run::start(inputs, session);
+        for turn in 0..6 {
+            let lent = run.as_sent(random, turn % 2).expect("the frame was sent");
+            run.step(random, turn % 2, &lent);
+        }
+        run
     }
 
     pub fn both_done(&self) -> bool {

@@ -6,22 +6,23 @@ use service_pair_tests::random::{report, seed, Random};
 use service_pair_tests::reference::dealer::tape_accepted;
 use service_pair_tests::reference::pairing::paired_tape;
 use service_pair_tests::reference::program::Inputs;
+use service_pair_tests::reference::shape::{Shape, SETS};
 use service_pair_tests::samples::fit_inputs;
 
 /// Two runs' inputs that agree on the fixed unit, with paired tapes.
-fn paired_inputs(random: &mut Random, fixed: usize) -> [Inputs; 2] {
-    let first = fit_inputs(random);
+fn paired_inputs(random: &mut Random, shape: Shape, fixed: usize) -> [Inputs; 2] {
+    let first = fit_inputs(random, shape);
     let mut second = first.clone();
     let other = 1 - fixed;
     // Now and then only one half differs, or none.
     if !random.once_in(5) {
-        second.key_halves[other] = random.contents(32);
+        second.key_halves[other] = random.contents(shape.string_bytes());
     }
     if !random.once_in(5) {
-        second.label_halves[other] = random.contents(32);
+        second.label_halves[other] = random.contents(shape.string_bytes());
     }
     second.tape = paired_tape(fixed, &first, &second, &first.tape);
-    assert!(tape_accepted(&second.tape));
+    assert!(tape_accepted(shape, &second.tape));
     let back = paired_tape(fixed, &second, &first, &second.tape);
     assert_eq!(back, first.tape, "each tape has one partner, SEED={}", seed());
     [first, second]
@@ -88,23 +89,30 @@ fn play(random: &mut Random, runs: &mut [Run; 2], fixed: usize, length: usize) -
 #[test]
 fn paired_tapes_give_equal_views() {
     let mut random = Random::for_test("views");
-    let trials = 400;
+    SETS.into_iter().for_each(|shape| equal_views(&mut random, shape));
+}
+
+/// The same in one set.
+fn equal_views(random: &mut Random, shape: Shape) {
+    let trials = 100;
     let (mut steps, mut finished) = ([0; 2], [0; 2]);
     for trial in 0..trials {
         let fixed = trial % 2;
         let session = random.session();
-        let mut runs = paired_inputs(&mut random, fixed).map(|inputs| Run::start(inputs, session));
+        let inputs = paired_inputs(random, shape, fixed);
+        let mut runs = inputs.map(|inputs| Run::start(inputs, session));
         assert_eq!(runs[0].units[fixed].bytes, runs[1].units[fixed].bytes, "SEED={}", seed());
         let length = random.below(60);
-        let [first, second] = play(&mut random, &mut runs, fixed, length);
+        let [first, second] = play(random, &mut runs, fixed, length);
         assert!(first == second, "the views of side {fixed} differ, SEED={}", seed());
         steps[fixed] += first.len();
         finished[fixed] += usize::from(runs.iter().all(Run::both_done));
     }
     assert!(finished.iter().all(|count| *count > 0), "no run came to its end");
     for fixed in 0..2 {
+        let (set, done) = (shape.set, finished[fixed]);
         let name =
-            format!("protocol: steps in views of side {fixed} ({} runs done)", finished[fixed]);
+            format!("protocol: set {set}, steps in views of side {fixed} ({done} runs done)");
         report(&name, steps[fixed]);
     }
 }
@@ -113,20 +121,14 @@ fn paired_tapes_give_equal_views() {
 #[test]
 fn unpaired_tapes_give_other_views() {
     let mut random = Random::for_test("unpaired views");
-    for trial in 0..20 {
+    for trial in 0..18 {
         let fixed = trial % 2;
-        let first = fit_inputs(&mut random);
+        let first = fit_inputs(&mut random, SETS[trial % SETS.len()]);
         let mut second = first.clone();
         second.key_halves[1 - fixed][0] ^= 1;
-        let views = [first, second].map(|inputs| {
-            let mut run = Run::start(inputs, 1);
-            for turn in 0..6 {
-                let lent = run.as_sent(&mut random, turn % 2).expect("the frame was sent");
-                run.step(&mut random, turn % 2, &lent);
-            }
-            run.sent[1 - fixed].clone()
-        });
+        let views = [first, second]
+            .map(|inputs| Run::whole(&mut random, inputs, 1).sent[1 - fixed].clone());
         assert_ne!(views[0][0], views[1][0], "SEED={}", seed());
     }
-    report("protocol: unpaired tapes", 20);
+    report("protocol: unpaired tapes", 18);
 }

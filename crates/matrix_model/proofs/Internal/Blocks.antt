@@ -15,7 +15,7 @@ use Rattle.matrix_model.specs.File.{Fits, blockCount, fileSize, rowsSize
 use Rattle.matrix_model.proofs.Parts.{length-part, getD-part}
 use Rattle.matrix_model.proofs.Layouts.{before-check}
 use Rattle.matrix_model.proofs.Blocks.{check-ext, length-check}
-use Rattle.matrix_model.specs.Internal.Rows.{rowsInSet}
+use Rattle.matrix_model.specs.Internal.Rows.{rowsForBlock}
 use Rattle.matrix_model.proofs.Internal.Rows.{long-set}
 use Rattle.matrix_model.proofs.Internal.Copies.{copied-kept, zeros-part}
 
@@ -54,7 +54,7 @@ block-put head part sums {s} {t} {u} e₁ e₂ e₃ e h l =
 
 -- and that is block b of the file of the rows
 pub block-made : (layout : Layout) → Fits layout → (rows : List ℕ) (b n : ℕ) → length rows ≡ rowsSize layout → b < blockCount layout → n ≡ rowsIn layout b
-    → (part sums : List ℕ) {s t u : List ℕ} → s ≡ pasted 0 (layout .letter ∷ b ∷ n ∷ layout .set ∷ []) (zeros 512) → part ≡ rowsInSet layout rows b
+    → (part sums : List ℕ) {s t u : List ℕ} → s ≡ pasted 0 (layout .letter ∷ b ∷ n ∷ layout .set ∷ []) (zeros 512) → part ≡ rowsForBlock layout rows b
     → t ≡ pasted 4 part s → u ≡ pasted 510 sums t → sums ≡ check t → u ≡ blockOf layout rows b
 unfolding blockOf frontOf
 block-made layout fits rows b n h l e part sums e₁ p e₂ e₃ f =

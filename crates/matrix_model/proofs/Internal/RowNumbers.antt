@@ -12,7 +12,7 @@ use Rattle.linear_model.proofs.Tables.{every-fails}
 use Rattle.numbers.specs.Number.{first}
 use Rattle.matrix_model.specs.Block.{Layout, rowsIn}
 use Rattle.matrix_model.specs.File.{Fits, blockCount, fileSize, rowsSize, rowPlaneOf, rowsOf, fitRow, nonzeroRow}
-use Rattle.matrix_model.specs.Internal.Rows.{rowsNumber, rowsHeld, heldBytes, rowsInFile, rowsInSet}
+use Rattle.matrix_model.specs.Internal.Rows.{rowsNumber, rowsHeld, heldBytes, rowsInFile, rowsForBlock}
 use Rattle.matrix_model.proofs.Parts.{same-part, getD-part, length-part}
 use Rattle.matrix_model.proofs.Layouts.{planes, next-bytes, full}
 use Rattle.matrix_model.proofs.Rows.{length-rows, getD-rows}
@@ -172,7 +172,7 @@ one-part n i set e = let o : n * 1 ≡ n = omega arith in rw o e
 module _ (layout : Layout) (fits : Fits layout) where
   -- the rows in block b of a file are the next of its rows
   pub block-rows : (file : List ℕ) (b : ℕ) → length file ≡ fileSize layout → b < blockCount layout
-      → rowsInFile layout file b ≡ rowsInSet layout (rowsOf layout file) b
+      → rowsInFile layout file b ≡ rowsForBlock layout (rowsOf layout file) b
   block-rows file b h l =
       let n = layout .rowBytes * rowsIn layout b in
       let at = layout .rowBytes * layout .blockRows * b in
@@ -181,7 +181,7 @@ module _ (layout : Layout) (fits : Fits layout) where
       (λ k q. sym (getD-rows layout fits file b k (full layout fits b k q) (omega arith)))
 
   -- the rows of block b, among those of a file or a set
-  pub among-block : {set part : List ℕ} (b : ℕ) → length set ≡ rowsSize layout → b < blockCount layout → part ≡ rowsInSet layout set b
+  pub among-block : {set part : List ℕ} (b : ℕ) → length set ≡ rowsSize layout → b < blockCount layout → part ≡ rowsForBlock layout set b
       → Among layout set (layout .blockRows * b) (rowsIn layout b) part
   among-block {set} b h l e =
       let room = next-bytes layout fits b l in

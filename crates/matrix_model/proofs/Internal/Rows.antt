@@ -11,7 +11,7 @@ use Rattle.linear_model.proofs.Tables.{every-ext}
 use Rattle.linear_model.proofs.Strings.{bit-take}
 use Rattle.matrix_model.specs.Block.{Layout, rowsIn}
 use Rattle.matrix_model.specs.File.{Fits, blockCount, fileSize, rowsSize, rowByte}
-use Rattle.matrix_model.specs.Internal.Rows.{rowsInFile, rowsInSet}
+use Rattle.matrix_model.specs.Internal.Rows.{rowsInFile, rowsForBlock}
 use Rattle.matrix_model.proofs.Parts.{length-part, getD-part, table-of}
 use Rattle.matrix_model.proofs.Layouts.{before-check, next-bytes, row-byte, full}
 
@@ -56,5 +56,5 @@ module _ (layout : Layout) (fits : Fits layout) (set : List ℕ) (b : ℕ) (h : 
   pub within-set : layout .rowBytes * layout .blockRows * b + layout .rowBytes * rowsIn layout b ≤ length set
   within-set = omega (arith, next-bytes layout fits b l)
 
-  pub long-set : (part : List ℕ) → part ≡ rowsInSet layout set b → length part ≡ layout .rowBytes * rowsIn layout b
+  pub long-set : (part : List ℕ) → part ≡ rowsForBlock layout set b → length part ≡ layout .rowBytes * rowsIn layout b
   long-set part e = rw e (length-part (layout .rowBytes * rowsIn layout b) (layout .rowBytes * layout .blockRows * b) set within-set)

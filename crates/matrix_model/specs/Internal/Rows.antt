@@ -21,10 +21,10 @@ rowsHeld layout inBlocks s = cond inBlocks (rowsOf layout s) s
 abbrev pub heldBytes : Layout → Bool → ℕ
 heldBytes layout inBlocks = cond inBlocks (fileSize layout) (rowsSize layout)
 
--- the rows of block b, in a file and in a set of rows
+-- the rows of block b, in a file and among rows one after the other
 abbrev pub rowsInFile : Layout → List ℕ → ℕ → List ℕ
 rowsInFile layout file b = take (layout .rowBytes * rowsIn layout b) (drop (blockBytes * b + headBytes) file)
 
-abbrev pub rowsInSet : Layout → List ℕ → ℕ → List ℕ
-rowsInSet layout set b =
+abbrev pub rowsForBlock : Layout → List ℕ → ℕ → List ℕ
+rowsForBlock layout set b =
     take (layout .rowBytes * rowsIn layout b) (drop (layout .rowBytes * layout .blockRows * b) set)

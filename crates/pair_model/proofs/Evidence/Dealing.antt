@@ -6,6 +6,7 @@ use mathlib.Core.List.{List, [], _∷_}
 use mathlib.Core.Bool.{Bool, cond, not}
 use native.Mathlib.Omega.{arith}
 use native.Mathlib.Nat.{le-refl}
+use borrow.Author.Tests.{le-ltb}
 use lib.Dec.{T, eqb, lit<}
 use lib.ListN.{length, getD, take, drop}
 use lib.Seq.{drop-drop, drop-at, take-all}
@@ -20,7 +21,6 @@ use Rattle.source_model.specs.Disjoint.{sampling}
 use Rattle.source_model.specs.Draw.{copied, tritOf, drawn, tapeFrom}
 use Rattle.source_model.proofs.Draws.{drawn-small}
 use Rattle.source_model.proofs.Copied.{length-copied, bytes-copied}
-use Rattle.pair_model.specs.Base.{base}
 use Rattle.pair_model.specs.Sampler.{copiedBytes, wantedTrits, sampled, nextPair, sampleConditions, sampleNumber}
 use Rattle.pair_model.specs.Dealer.{dealtBytes, dealConditions, dealNumber}
 use Rattle.numbers.proofs.Numbers.{is-true, denied, equal, at-least, is-equal, Positive, none-holds, first-zero, first-merge}
@@ -113,8 +113,8 @@ module _ (S : Scheme) where
         whole : copiedBytes S + (S .innerBytes + S .innerBytes) ≡ tapeBytes S
         whole = omega arith
 
--- at document 01's sizes it is the sampling of 192 bytes and 256 trits
-pub sampler-is : (source : List ℕ) (s : ℕ) → let A = sampling 192 256 32 in
-    (sampleNumber base source s 256 ≡ A .number source s) × (sampled base source s ≡ A .tape source s) × (nextPair base source s ≡ A .next source s)
-unfolding first sampleConditions sampled nextPair
-sampler-is source s = (refl, refl, refl)
+    -- it is the sampling of so many bytes and trits
+    pub sampler-is : let A = sampling (copiedBytes S) (wantedTrits S) (S .innerBytes) in
+        (sampleNumber S source s (tapeBytes S) ≡ A .number source s) × (sampled S source s ≡ A .tape source s) × (nextPair S source s ≡ A .next source s)
+    unfolding first sampleConditions sampled nextPair
+    sampler-is = (rw (le-ltb (tapeBytes S) (tapeBytes S) (le-refl (tapeBytes S))), refl, refl)

@@ -55,7 +55,7 @@ delivered-at P run lent e {d = d} i q l m =
 
 -- no event
 abbrev pub none : Event
-none = record { frame = []; files = noFiles; result = 0; written = []; after = idle small }
+none = record { frame = []; files = noFiles; result = 0; written = []; after = idle }
 
 -- event k of a view
 abbrev pub eventAt : ℕ → View → Event

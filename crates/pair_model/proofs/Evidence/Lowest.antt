@@ -7,17 +7,19 @@ use lib.Dec.{T, eqb, eqb→eq, lit≤}
 use Rattle.numbers.specs.Number.{_when_, onlyIf, merge}
 use Rattle.numbers.specs.Lowest.{RisingFrom, Rising}
 use Rattle.numbers.proofs.Lowest.{rising-from, rising-end, rising-merge, first-lowest}
+use Rattle.matrix_model.specs.File.{layoutOf}
+use Rattle.numbers.proofs.Sets.{lowest-in}
 use Rattle.matrix_model.proofs.Lowest.{faults-rise, check-lowest, read-lowest, write-lowest}
 use Rattle.pair_model.specs.Scheme.{Files, readsNothing, faultsIn, Scheme}
-use Rattle.pair_model.specs.Base.{base}
+use Rattle.pair_model.specs.Base.{schemeOf}
 use Rattle.pair_model.specs.Frame.{Parameters, dealKind, openKind, maskKind, kindOf}
 use Rattle.source_model.specs.Draw.{sourceConditions}
 use Rattle.pair_model.specs.Sampler.{shortConditions, sampleConditions}
 use Rattle.pair_model.specs.Evaluator.{evaluateConditions}
-use Rattle.pair_model.specs.Unit.{stepReading, unfitDeal, beginConditions, begin, contentConditions, stepConditions}
+use Rattle.pair_model.specs.Unit.{stepReading, unfitDeal, beginConditions, contentConditions, stepConditions, unitBegin}
 use Rattle.pair_model.specs.Join.{joinConditions}
 use Rattle.pair_model.specs.Dealer.{dealConditions, dealSourceConditions}
-use Rattle.pair_model.specs.StateSlice.{decodeState, pairBeginNumber, pairStepNumber}
+use Rattle.pair_model.specs.StateSlice.{setIn, decodeState, pairBeginNumber, pairStepNumber}
 use Rattle.pair_model.specs.WholeRun.{runConditions}
 use Rattle.pair_model.specs.Lowest.{LowestNumbers}
 use Rattle.pair_model.proofs.Theorem.StepLaws.{step-result}
@@ -87,21 +89,23 @@ unfolding runConditions
 run-rises input n = (lit≤ tt, (lit≤ tt, (lit≤ tt, (lit≤ tt, (lit≤ tt, (lit≤ tt, tt))))))
 
 pub lowest-numbers : LowestNumbers
-unfolding begin pairBeginNumber pairStepNumber
+unfolding unitBegin pairBeginNumber pairStepNumber
 lowest-numbers =
     record {
-      evaluates = λ key label lent n. first-lowest (evaluate-rises base lent tt (faults-rise (lent .matrix)) key label n);
-      deals = λ lent tape n. first-lowest (deal-rises base lent tt tape n);
-      deals-source = λ lent source s n. first-lowest (deal-source-rises base lent tt source s n);
-      samples = λ source s n. first-lowest (sample-rises base source s n);
-      begins = λ t key label. first-lowest (begin-rises base t key label);
-      begins-slice = λ t key label s. first-lowest (lit≤ tt, begin-rises base t key label);
+      evaluates = λ set key label lent n. lowest-in set _ (evaluate-rises (schemeOf set) lent tt (faults-rise (layoutOf set) (lent .matrix)) key label n);
+      deals = λ set lent tape n. lowest-in set _ (deal-rises (schemeOf set) lent tt tape n);
+      deals-source = λ set lent source s n. lowest-in set _ (deal-source-rises (schemeOf set) lent tt source s n);
+      samples = λ set source s n. lowest-in set _ (sample-rises (schemeOf set) source s n);
+      begins = λ set t key label. lowest-in set _ (begin-rises (schemeOf set) t key label);
+      begins-slice = λ set t key label s. lowest-in set _ (lit≤ tt, begin-rises (schemeOf set) t key label);
       steps =
-          λ u f lent n. rw (step-result base u f lent n) (first-lowest (step-rises base lent tt (faults-rise (lent .matrix)) (u .parameters) (u .stage) f n));
+          λ u f lent n.
+          rw (step-result (schemeOf (u .set)) u f lent n)
+          (first-lowest (step-rises (schemeOf (u .set)) lent tt (faults-rise (layoutOf (u .set)) (lent .matrix)) (u .parameters) (u .stage) f n));
       steps-slice =
-          λ s f lent n. let u = decodeState base s in
-          first-lowest (lit≤ tt, step-rises base lent tt (faults-rise (lent .matrix)) (u .parameters) (u .stage) f n);
-      joins = λ f g n. first-lowest (join-rises base f g n);
+          λ s f lent n. let u = decodeState s in
+          first-lowest (lit≤ tt, step-rises (schemeOf (setIn s)) lent tt (faults-rise (layoutOf (setIn s)) (lent .matrix)) (u .parameters) (u .stage) f n);
+      joins = λ set f g n. lowest-in set _ (join-rises (schemeOf set) f g n);
       writes = write-lowest;
       reads = read-lowest;
       checks = check-lowest;

@@ -10,7 +10,7 @@ use borrow.Author.Tests.{eq-eqb, ne-eqb}
 use lib.Dec.{T, ltb, eqb, ltb→lt, lit<, lit≤}
 use lib.ListN.{getD, drop}
 use Rattle.linear_model.specs.Bits.{Bytes, zeros, fromBits, bit, pack}
-use Rattle.linear_model.specs.Tables.{tabulate, every, below, sum}
+use Rattle.linear_model.specs.Tables.{tabulate, every, below}
 use Rattle.linear_model.specs.Trits.{trit, packTrits, bitTrits, fitTrits}
 use Rattle.linear_model.specs.Products.{tritTerm, rowDigit, matrixProduct}
 use Rattle.linear_model.proofs.Strings.{bytes-zeros, bit-lt, add-zeros}
@@ -24,10 +24,10 @@ use Rattle.pair_model.specs.Scheme.{Side, side0, side1, other, files, re
 use Rattle.pair_model.specs.Tape.{r0, Accepted}
 use Rattle.pair_model.specs.Evaluator.{codeOf, code}
 use Rattle.pair_model.specs.Base.{base}
-use Rattle.pair_model.specs.Run.{Inputs, WellFormed, runOf, protocol, sentCount, start, final, DeliveredAsSent, firstOf}
+use Rattle.pair_model.specs.Run.{WellFormed, runOf, protocol, sentCount, start, final, DeliveredAsSent, firstOf}
 use Rattle.pair_model.specs.Theorem.{SameForFixed, ownCode, CorrectRun}
 use Rattle.pair_model.specs.Sample.{sampleInputs, changed, sampleRun, sampleEntry, withStrays, SampleCompared}
-use Rattle.pair_model.proofs.Theorem.Main.{base-linear}
+use Rattle.pair_model.proofs.Theorem.Main.{set-linear}
 use Rattle.pair_model.proofs.Theorem.Correct.{correct}
 use Rattle.pair_model.proofs.Evidence.Strays.{with-strays}
 use Rattle.pair_model.proofs.Evidence.OtherShare.{first-list}
@@ -103,7 +103,7 @@ three side1 side1 = refl
 
 -- what the theorem says of the sample
 abbrev run-correct : CorrectRun (protocol base) sampleRun
-run-correct = correct base base-linear sampleInputs (zeros 256) well accepted-zeros
+run-correct = correct base (set-linear 1) sampleInputs (zeros 256) well accepted-zeros
 
 available : (i : Side) → DeliveredAsSent (protocol base) sampleRun (start (protocol base) sampleRun) (sampleEntry i)
 unfolding sentCount final
@@ -163,12 +163,12 @@ sample-compared =
       changedWellFormed = changed-well;
       differs = differs;
       sameForFixed = same-for;
-      comparable = λ fixed tape. with-strays base base-linear sampleInputs (zeros 256) well accepted-zeros fixed (runOf (changed (other fixed)) tape);
+      comparable = λ fixed tape. with-strays base (set-linear 1) sampleInputs (zeros 256) well accepted-zeros fixed (runOf (changed (other fixed)) tape);
       done =
           λ fixed i.
           run-correct .stages (firstOf fixed (withStrays base (files sampleFile) fixed))
           (first-list (protocol base) fixed sampleRun sampleRun _ _ (withStrays base (files sampleFile) fixed)
-          (with-strays base base-linear sampleInputs (zeros 256) well accepted-zeros fixed sampleRun)) i
+          (with-strays base (set-linear 1) sampleInputs (zeros 256) well accepted-zeros fixed sampleRun)) i
           ∙ ap (λ (k : ℕ). 1 + k) (three fixed i);
       available = available;
       notAhead = not-ahead;

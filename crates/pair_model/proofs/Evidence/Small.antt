@@ -1,36 +1,29 @@
 -- Inputs and a tape of the small scheme, in which protocols are refuted.
-use Prim.Native.Nat.{ℕ, zero, suc, _<_}
+use Prim.Native.Nat.{ℕ, _<_}
 use mathlib.Core.Path.{_≡_, refl, ap}
 use mathlib.Core.Logic.{_≢_}
 use native.Mathlib.Omega.{arith}
 use mathlib.Core.List.{List, [], _∷_}
 use lib.Dec.{lit<}
 use lib.ListN.{getD}
-use Rattle.linear_model.specs.Bits.{Bytes, zeros, bit}
+use Rattle.linear_model.specs.Bits.{zeros, bit}
 use Rattle.linear_model.specs.Tables.{every}
 use Rattle.linear_model.specs.Trits.{trit, fitTrits}
 use Rattle.linear_model.proofs.Strings.{bytes-zeros}
 use Rattle.numbers.specs.Number.{first}
-use Rattle.pair_model.specs.Scheme.{Linear, Side, side0, side1, files, readingNumber, field}
+use Rattle.pair_model.specs.Scheme.{Linear, side0, side1, files, readingNumber, field}
 use Rattle.pair_model.specs.Tape.{r0, Accepted}
 use Rattle.pair_model.specs.Frame.{sharedParameters}
 use Rattle.pair_model.specs.Run.{Inputs, WellFormed}
 use Rattle.pair_model.specs.Theorem.{SameForFixed}
 use Rattle.pair_model.specs.Sample.{ofSides}
 use Rattle.pair_model.specs.Leaky.{small}
+use Rattle.pair_model.proofs.Theorem.Layouts.{bytes-one}
 use Rattle.pair_model.proofs.Theorem.Main.{circulant-linear}
 
 -- its product is linear on both sides
 pub small-linear : Linear small
-small-linear = circulant-linear 1 1 _ _
-
--- one byte
-pub bytes-one : (x : ℕ) → x < 256 → Bytes 1 (x ∷ [])
-bytes-one x h = record { size = refl; small = λ i. at i }
-  where
-    at : (i : ℕ) → getD (x ∷ []) i 0 < 256
-    at zero = h
-    at (suc i) = lit< tt
+small-linear = circulant-linear 1 1 1 _
 
 -- both key halves, both label halves, session 1 and a file whose one row has trit 1 in column 0
 abbrev pub smallInputs : (key0 key1 label0 label1 : ℕ) → Inputs

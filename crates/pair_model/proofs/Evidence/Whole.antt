@@ -1,13 +1,15 @@
 -- All of the evidence holds.
+use Prim.Native.Nat.{ℕ}
 use Rattle.numbers.proofs.Lowest.{falling-first}
 use Rattle.source_model.proofs.Evidence.{draw-evidence}
 use Rattle.pair_model.specs.Run.{protocol}
-use Rattle.pair_model.specs.Base.{base}
+use Rattle.pair_model.specs.Base.{Format, circulantScheme, InEachSet, base}
 use Rattle.pair_model.specs.Theorem.{Correctness, Privacy, ThreeFrames}
-use Rattle.pair_model.specs.Evidence.{Evidence}
-use Rattle.pair_model.proofs.Theorem.Main.{private, demand3, base-linear, base-demand3}
+use Rattle.pair_model.specs.Evidence.{Laws, Evidence}
+use Rattle.pair_model.proofs.Theorem.Main.{private, demand3, circulant-linear, set-demand3}
 use Rattle.pair_model.proofs.Evidence.Lowest.{lowest-numbers}
 use Rattle.pair_model.proofs.Evidence.Examples.{twelve-examples}
+use Rattle.pair_model.proofs.Evidence.SetExamples.{set-examples}
 use Rattle.pair_model.proofs.Evidence.Sample.{sample-compared}
 use Rattle.pair_model.proofs.Evidence.Strays.{shared-comparable}
 use Rattle.pair_model.proofs.Evidence.Dealing.{deal-accepted, sampled-accepted, sampler-is}
@@ -18,21 +20,32 @@ use Rattle.pair_model.proofs.Evidence.Leaky.{own-step}
 use Rattle.pair_model.proofs.Evidence.Wrong.{bare-key-fails, without-z-fails, inner-mask-fails, uneven-mask-fails, other-key-fails, refuses-all-fails, second-deal-fails, telling-number-fails, clearing-refusal-fails, idle-takes-fails, done-takes-fails, beyond-takes-fails, refused-beginning-fails}
 use Rattle.pair_model.proofs.Evidence.WrongMask.{empty-mask-fails, half-for-mask-fails, copied-mask-fails}
 
+-- at any size
+circulant-laws : (set n t : ℕ) (F : Format) → Laws (circulantScheme set n t F)
+circulant-laws set n t F =
+    let S = circulantScheme set n t F in
+    let L = circulant-linear set n t F in
+    record {
+      demand3 = demand3 S L;
+      dealer = λ lent. deal-accepted S lent tt;
+      sampler = sampled-accepted S;
+      samplerIs = sampler-is S;
+      share =
+          λ fixed a b well₁ well₂ g.
+          record { hides = private S L fixed a b well₁ well₂ g; share = other-share-frame S L fixed a b well₁ well₂ g };
+    }
+
 pub evidence : Evidence
 evidence =
     record {
       examples = twelve-examples;
+      sets = set-examples;
       lowest = lowest-numbers;
       falling = falling-first;
       sample = sample-compared;
       selfComparable = λ fixed run es. shared-comparable (protocol base) fixed run run es;
-      dealer = λ lent. deal-accepted base lent tt;
-      sampler = sampled-accepted base;
-      samplerIs = sampler-is;
+      anySize = circulant-laws;
       draws = draw-evidence;
-      share =
-          λ fixed a b well₁ well₂ g.
-          record { hides = private base base-linear fixed a b well₁ well₂ g; share = other-share-frame base base-linear fixed a b well₁ well₂ g };
       passes = demand3 small small-linear;
       ownStep = own-step;
       bareKey = bare-key-fails;
@@ -54,5 +67,6 @@ evidence =
     }
 
 -- the clauses of a step's contract that speak of all runs
-pub theorem-and-evidence : Correctness (protocol base) × (Privacy (protocol base) × (ThreeFrames (protocol base) × Evidence))
-theorem-and-evidence = (base-demand3 .correctness, (base-demand3 .privacy, (base-demand3 .threeFrames, evidence)))
+pub theorem-and-evidence : InEachSet (λ S. Correctness (protocol S)) × (InEachSet (λ S. Privacy (protocol S)) × (InEachSet (λ S. ThreeFrames (protocol S)) × Evidence))
+theorem-and-evidence =
+    ((λ set is. set-demand3 set .correctness), ((λ set is. set-demand3 set .privacy), ((λ set is. set-demand3 set .threeFrames), evidence)))

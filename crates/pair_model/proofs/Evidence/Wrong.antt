@@ -19,7 +19,8 @@ use Rattle.pair_model.specs.View.{View, events, view}
 use Rattle.pair_model.specs.Theorem.{Demand3}
 use Rattle.pair_model.specs.Leaky.{small, bareKey, withoutZ, innerMaskDealt, unevenMaskDealt, otherKeyShown, refusesAll, dealAgain, secondDeal, numberByKey, tellingNumber, clearedIfRefused, clearingRefusal, takenAt, takesAt, refusedBeginning}
 use Rattle.pair_model.proofs.Theorem.Pairing.{innerOf}
-use Rattle.pair_model.proofs.Evidence.Small.{a, b, well₁, well₂, same-for, zero-one, small-linear, bytes-one, zero-tape}
+use Rattle.pair_model.proofs.Theorem.Layouts.{bytes-one}
+use Rattle.pair_model.proofs.Evidence.Small.{a, b, well₁, well₂, same-for, zero-one, small-linear, zero-tape}
 use Rattle.pair_model.proofs.Evidence.Leaky.{sent, bare-key}
 use Rattle.pair_model.proofs.Evidence.WithoutZ.{without-z}
 use Rattle.pair_model.proofs.Evidence.LeakyDealer.{inner-mask-leaks}
@@ -73,7 +74,7 @@ refuses-all-fails d = thirteen (d .correctness (runOf a (zeros 8)) well₁ zero-
 
 -- a unit that waits for an open frame
 abbrev waiting : State
-waiting = state (parameters 0 1) openKind (nothing small)
+waiting = state 1 (parameters 0 1) openKind (nothing small)
 
 -- a deal of zeros for it
 abbrev dealOfZeros : Lent
@@ -110,12 +111,12 @@ pub clearing-refusal-fails : ¬ Demand3 (clearingRefusal small)
 unfolding clearedIfRefused step stepConditions readHeader onlyIf first
 clearing-refusal-fails d =
     zero-one [] [] (ap (λ (u : State). u .secrets .key)
-    (d .threeFrames .refusal (state (parameters 0 1) openKind (halves small (1 ∷ []) (0 ∷ []))) noFrame (λ e. omega (arith, e)) .1))
+    (d .threeFrames .refusal (state 1 (parameters 0 1) openKind (halves small (1 ∷ []) (0 ∷ []))) noFrame (λ e. omega (arith, e)) .1))
 
 -- ---- a frame where none is waited for
 
 abbrev at : ℕ → State
-at stage = state (parameters 0 1) stage (nothing small)
+at stage = state 1 (parameters 0 1) stage (nothing small)
 
 pub idle-takes-fails : ¬ Demand3 (takesAt small idleStage)
 unfolding takenAt

@@ -12,16 +12,16 @@ use Rattle.linear_model.specs.Trits.{fitTrits}
 use Rattle.numbers.specs.Number.{_when_, first, onlyIf}
 use Rattle.numbers.proofs.Numbers.{first-end}
 use Rattle.matrix_model.specs.Block.{Layout}
-use Rattle.matrix_model.specs.File.{fileSize, faultsOf, checkNumberOf}
+use Rattle.matrix_model.specs.File.{checkNumberOf}
 use Rattle.pair_model.specs.Scheme.{Files, files, Reading, readsNothing, badLength, faultsIn, readingNumber, Scheme, layoutBytes, field}
-use Rattle.pair_model.specs.Base.{matrixReading}
+use Rattle.pair_model.specs.Base.{matrixReading, blockFormat}
 use Rattle.pair_model.specs.Tape.{dealLayout}
 use Rattle.pair_model.specs.Frame.{dealKind, openKind, maskKind, headerBytes, kindOf, bodyOf, frameBytes}
 use Rattle.pair_model.specs.Unit.{stepReading, leastOutput, unfitDeal, lengthConditions, contentConditions}
 use Rattle.pair_model.proofs.Internal.Fields.{field-at}
 
 -- the check of a file of any layout gives the number of what is read of it
-pub reading-number : (layout : Layout) (file : List ℕ) → checkNumberOf layout file ≡ readingNumber (matrixReading (fileSize layout) (faultsOf layout)) (files file)
+pub reading-number : (layout : Layout) (file : List ℕ) → checkNumberOf layout file ≡ readingNumber (matrixReading (blockFormat layout)) (files file)
 unfolding readingNumber
 reading-number layout file = refl
 

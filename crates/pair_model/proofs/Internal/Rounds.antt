@@ -11,6 +11,7 @@ use Rattle.linear_model.specs.Bits.{Bytes, zeros}
 use Rattle.linear_model.specs.Trits.{fitTrits}
 use Rattle.linear_model.proofs.Strings.{bytes-slice, bytes-add, bytes-append}
 use Rattle.numbers.specs.Number.{first, merge, output}
+use Rattle.numbers.specs.Sets.{numberIn}
 use Rattle.matrix_model.specs.File.{checkNumber}
 use Rattle.numbers.proofs.Numbers.{denied, is-true}
 use Rattle.pair_model.specs.Scheme.{files, noFiles, readingNumber, concat, Side, side0, side1, other, sideByte}
@@ -30,7 +31,7 @@ use Rattle.pair_model.proofs.Theorem.MaskLaws.{openKey, openLabel, mask
 use Rattle.pair_model.proofs.Theorem.StepLaws.{step-accepted}
 use Rattle.pair_model.proofs.Theorem.Stages.{parametersAt, openBody, incoming, outgoing, unitAt, accepts-deal, accepts-open, accepts-mask, accepts}
 use Rattle.pair_model.proofs.Theorem.ShareLaws.{shareFrameOf, joins-to-code}
-use Rattle.pair_model.proofs.Theorem.Main.{base-linear}
+use Rattle.pair_model.proofs.Theorem.Main.{set-linear}
 use Rattle.pair_model.proofs.Internal.Runs.{key-0, key-1, label-0, label-1, tape-is}
 
 -- the front of what is padded
@@ -53,7 +54,7 @@ module _ (input : List ℕ) (n : ℕ) (f : RunFits input n) (small : (i : ℕ) �
   tape = inputTape base input
 
   well : WellFormed base given
-  unfolding readingNumber checkNumber first
+  unfolding readingNumber checkNumber numberIn first
   well =
       record {
         key = λ i. elim i [ side0 ↦ rw (← key-0 input) (bytes-slice 6528 0 32 input bytes (lit≤ tt)) | side1 ↦ rw (← key-1 input) (bytes-slice 6528 32 32 input bytes (lit≤ tt)) ];
@@ -75,7 +76,7 @@ module _ (input : List ℕ) (n : ℕ) (f : RunFits input n) (small : (i : ℕ) �
       → step base u g (files (inputFile base input)) 70 ≡ record { result = 0; written = getD (outgoing base given tape i) k []; next = unit i (suc k) }
   takes i k l u g eu eg =
       (λ j. step base (eu j) (eg j) (files (inputFile base input)) 70)
-      ∙ accepts base base-linear given tape well accepted-tape i (files (inputFile base input)) 70 (lit≤ tt) k l refl
+      ∙ accepts base (set-linear 1) given tape well accepted-tape i (files (inputFile base input)) 70 (lit≤ tt) k l refl
 
   -- what side i has sent after k + 1 steps
   pub record Sent (i : Side) (k : ℕ) (sent : List ℕ) (next : State) : Type 0 where
@@ -107,7 +108,7 @@ module _ (input : List ℕ) (n : ℕ) (f : RunFits input n) (small : (i : ℕ) �
   unfolding unitAt
   deal-accepted i =
       (λ j. stepNumber base (begun-is i j .parameters) (begun-is i j .stage) (deal-is i j) (files (inputFile base input)) (leastOutput base))
-      ∙ accepts-deal base base-linear given tape well accepted-tape i (files (inputFile base input)) (leastOutput base) (lit≤ tt)
+      ∙ accepts-deal base (set-linear 1) given tape well accepted-tape i (files (inputFile base input)) (leastOutput base) (lit≤ tt)
 
   -- and so is the other's open frame
   pub open-accepted : (i : Side) (u : State) (g file : List ℕ) → u ≡ unit i 1 → g ≡ incoming base given tape i 1 → file ≡ inputFile base input
@@ -115,7 +116,7 @@ module _ (input : List ℕ) (n : ℕ) (f : RunFits input n) (small : (i : ℕ) �
   unfolding unitAt
   open-accepted i u g file eu eg ef =
       (λ j. stepNumber base (eu j .parameters) (eu j .stage) (eg j) (files (ef j)) (leastOutput base))
-      ∙ accepts-open base base-linear given tape well accepted-tape i (files (inputFile base input)) (leastOutput base) (lit≤ tt) refl
+      ∙ accepts-open base (set-linear 1) given tape well accepted-tape i (files (inputFile base input)) (leastOutput base) (lit≤ tt) refl
 
   -- the frames that a unit takes are the other's
   open-length : (i : Side) → length (openBody base given tape i) ≡ 64
@@ -144,7 +145,7 @@ module _ (input : List ℕ) (n : ℕ) (f : RunFits input n) (small : (i : ℕ) �
   unfolding unitAt advance
   takes-mask i =
       sym (step-accepted base (unit i 2) (incoming base given tape i 2) (files (inputFile base input)) 70
-      (accepts-mask base base-linear given tape well accepted-tape i (files (inputFile base input)) 70 (lit≤ tt) refl))
+      (accepts-mask base (set-linear 1) given tape well accepted-tape i (files (inputFile base input)) 70 (lit≤ tt) refl))
 
   -- and what it writes is made of the rows alone
   pub share-is : (i : Side) (u : State) (g file sent : List ℕ) → u ≡ unit i 2 → g ≡ incoming base given tape i 2 → file ≡ inputFile base input
@@ -158,7 +159,7 @@ module _ (input : List ℕ) (n : ℕ) (f : RunFits input n) (small : (i : ℕ) �
   -- and their join is the code
   pub join-is : (a b : List ℕ) → a ≡ shareFrameOf base given tape side0 → b ≡ shareFrameOf base given tape side1 → joined base a b ≡ runCode base input
   unfolding runCode
-  join-is a b ea eb = (λ j. joined base (ea j) (eb j)) ∙ joins-to-code base given tape base-linear
+  join-is a b ea eb = (λ j. joined base (ea j) (eb j)) ∙ joins-to-code base given tape (set-linear 1)
 
 -- both frames of a deal that was written over 332 bytes
 module _ (t : List ℕ) (h : Accepted base t) (r : ℕ) (o : List ℕ) (e : r ≡ dealNumber base noFiles t 332) (w : o ≡ output r (dealt base (sharedParameters 1) noFiles t) (zeros 332)) where

@@ -11,7 +11,8 @@ use lib.ListN.{length, take, drop, length-drop}
 use lib.Seq.{drop-drop, take-take, take-nil, length-take-le}
 use Rattle.linear_model.specs.Trits.{fitTrits}
 use Rattle.numbers.specs.Number.{first}
-use Rattle.matrix_model.specs.File.{badCheck, badLayout, badTrit, zeroRow, faultsOf, checkNumber}
+use Rattle.numbers.specs.Sets.{numberIn}
+use Rattle.matrix_model.specs.File.{rowsOf, badCheckOf, badLayoutOf, badTritOf, zeroRowOf, faultsOf, checkNumber, matrixB}
 use Rattle.numbers.proofs.Numbers.{NoneHolds, none-holds, is-equal, is-at-least, or-left, or-right}
 use Rattle.pair_model.specs.Scheme.{side0, side1}
 use Rattle.pair_model.specs.Base.{base}
@@ -43,6 +44,19 @@ module _ (input : List ℕ) where
 
 -- ---- the number
 
+-- the faults of its file
+abbrev badCheck : List ℕ → Bool
+badCheck file = badCheckOf matrixB file
+
+abbrev badLayout : List ℕ → Bool
+badLayout file = badLayoutOf matrixB file
+
+abbrev badTrit : List ℕ → Bool
+badTrit file = badTritOf matrixB (rowsOf matrixB file)
+
+abbrev zeroRow : List ℕ → Bool
+zeroRow file = zeroRowOf matrixB (rowsOf matrixB file)
+
 -- a tape with an unfit trit: 10 comes after the file's 8 and 9 and before its 12
 abbrev lowest : Bool → Bool → Bool → Bool → ℕ
 lowest a b c d = cond a 8 (cond b 9 (cond c 10 (cond d 12 0)))
@@ -73,15 +87,15 @@ module _ (input : List ℕ) (n : ℕ) where
   run-room l h = simp (eq-eqb (length input) 6528 l, lt-ltb n 22 h)
 
   module _ (l : length input ≡ 6528) (r : 22 ≤ n) (long : length (inputFile base input) ≡ 6144) where
-    pub run-fit : (m : ℕ) → m ≡ checkNumber (inputFile base input) → fitTrits 32 256 (r0 base (inputTape base input)) ≡ true → m ≡ runNumber input n
-    unfolding first runConditions checkNumber faultsOf
+    pub run-fit : (m : ℕ) → m ≡ checkNumber 1 (inputFile base input) → fitTrits 32 256 (r0 base (inputTape base input)) ≡ true → m ≡ runNumber input n
+    unfolding first runConditions checkNumber numberIn faultsOf
     run-fit m e f =
         e ∙ rw (eq-eqb (length (inputFile base input)) 6144 long, eq-eqb (length input) 6528 l, le-ltb n 22 r, f)
         (fit-tape (badCheck (inputFile base input)) (badLayout (inputFile base input)) (badTrit (inputFile base input)) (zeroRow (inputFile base input)))
 
-    pub run-unfit : (m : ℕ) → m ≡ checkNumber (inputFile base input) → fitTrits 32 256 (r0 base (inputTape base input)) ≡ false
+    pub run-unfit : (m : ℕ) → m ≡ checkNumber 1 (inputFile base input) → fitTrits 32 256 (r0 base (inputTape base input)) ≡ false
         → cond (eqb m 8) 8 (cond (eqb m 9) 9 10) ≡ runNumber input n
-    unfolding first runConditions checkNumber faultsOf
+    unfolding first runConditions checkNumber numberIn faultsOf
     run-unfit m e f =
         unfit-tape (badCheck (inputFile base input)) (badLayout (inputFile base input)) (badTrit (inputFile base input)) (zeroRow (inputFile base input)) m
         (e ∙ rw (eq-eqb (length (inputFile base input)) 6144 long))
@@ -111,7 +125,7 @@ unfolding runConditions
 none input n = none-holds (runConditions input n) (lit< tt, (lit< tt, (lit< tt, (lit< tt, (lit< tt, (lit< tt, tt))))))
 
 pub run-fits : (input : List ℕ) (n : ℕ) → runNumber input n ≡ 0 → RunFits input n
-unfolding runConditions checkNumber faultsOf first
+unfolding runConditions checkNumber numberIn faultsOf first
 run-fits input n e =
     let f = inputFile base input in
     let t = none input n e in

@@ -2,25 +2,30 @@
 use mathlib.Core.Path.{_≡_, refl, sym, ap, _∙_, subst}
 use mathlib.Core.List.{List, [], _∷_}
 use mathlib.Core.Bool.{Bool, true, false, cond}
-use Prim.Native.Nat.{ℕ, zero, suc, _+_, _<_}
+use Prim.Native.Nat.{ℕ, zero, suc, _+_, _/_, _<_, _≤_}
 use native.Mathlib.Nat.{suc-ne-zero}
 use native.Mathlib.Omega.{arith}
-use lib.Dec.{eqb, eqb→eq, lit<}
+use borrow.Author.Tests.{ne-eqb}
+use lib.Dec.{T, eqb, eqb→eq, leb, lit<, lit≤}
+use lib.ListN.{getD, take, drop}
 use Rattle.linear_model.specs.Bits.{Bytes, addBits}
-use Rattle.linear_model.proofs.Strings.{bytes-add, bytes-append, bytes-zeros}
+use Rattle.linear_model.proofs.Strings.{bytes-add, bytes-append, bytes-slice, bytes-zeros}
 use Rattle.numbers.proofs.Numbers.{holds}
+use Rattle.numbers.specs.Sets.{isSet, setBits}
+use Rattle.numbers.proofs.Sets.{each, counted-set, counted-is, number-in, number-none}
 use Rattle.pair_model.specs.Scheme.{Files, Scheme, layoutBytes, field}
+use Rattle.pair_model.specs.Base.{schemeOf, base}
 use Rattle.pair_model.specs.Tape.{dealLayout}
 use Rattle.pair_model.specs.Frame.{Parameters, parameters, FitsHeader, dealKind, openKind, maskKind, shareKind, header, frame, headerBytes, bodyOf, openLayout, frameBytes}
-use Rattle.pair_model.specs.Unit.{State, state, Stepped, halves, nothing, shareOf, beginNumber, begin, takeDeal, takeOpen, takeMask, advance, step}
-use Rattle.pair_model.specs.StateSlice.{stateBytes, secretsLayout, encodeState, decodeState, Sized}
-use Rattle.pair_model.specs.Calls.{AreBytes}
-use Rattle.pair_model.proofs.Theorem.Layouts.{Laid, fieldsOf, laid-fields, bytes-concat, bytes-drop}
+use Rattle.pair_model.specs.Unit.{State, state, Stepped, halves, nothing, begun, idle, shareOf, beginConditions, beginNumber, takeDeal, takeOpen, takeMask, advance, step, unitBegin, unitStep}
+use Rattle.pair_model.specs.StateSlice.{stringRoom, rooms, inRooms, stateHeader, stateHeaderBytes, stateBytes, encodeState, decodeAs, decodeState, setIn, Sized, sliceStep}
+use Rattle.pair_model.specs.Calls.{AreBytes, SizedState}
+use Rattle.pair_model.proofs.Theorem.Layouts.{bytes-one, Laid, fieldsOf, laid-fields, bytes-concat, bytes-drop}
 use Rattle.pair_model.proofs.Theorem.MaskLaws.{bytes-mask-of}
 use Rattle.pair_model.proofs.Theorem.StepLaws.{numberFor, step-accepted, step-result, step-refused, fits}
 use Rattle.pair_model.proofs.Theorem.ShareLaws.{bytes-code}
-use Rattle.pair_model.proofs.Internal.Begins.{begin-fits, begin-accepted, begin-refused}
-use Rattle.pair_model.proofs.Internal.Encodings.{inSliceOrder, laid-secrets}
+use Rattle.pair_model.proofs.Internal.Begins.{begin-fits}
+use Rattle.pair_model.proofs.Internal.Encodings.{Roomy, laid-secrets, decode-encode, set-encoded}
 
 -- ---- frames and slices
 
@@ -41,40 +46,44 @@ pub bytes-frame : (kind : ℕ) (t : Parameters) {n : ℕ} {body : List ℕ} → 
 unfolding frame
 bytes-frame kind t hk hs h = bytes-append (bytes-header kind t hk hs) h
 
-module _ (S : Scheme) where
+module _ (S : Scheme) (roomy : Roomy S) where
   -- the bytes of a state that a slice can hold
-  pub bytes-encoded : (u : State) → Sized S u → Bytes (stateBytes S) (encodeState u)
-  unfolding encodeState
-  bytes-encoded u h =
-      bytes-frame (u .stage) (u .parameters) (h .stage) (h .side)
-      (bytes-concat (secretsLayout S) (inSliceOrder (u .secrets)) (laid-secrets S u h))
+  bytes-of-state : (u : State) → u .set < 256 → Sized S u → Bytes stateBytes (encodeState u)
+  unfolding encodeState stateHeader
+  bytes-of-state u l h =
+      bytes-append (bytes-append (bytes-header (u .stage) (u .parameters) (h .stage) (h .side)) (bytes-one (u .set) l))
+      (bytes-concat rooms (inRooms (u .secrets)) (laid-secrets S roomy u h))
 
   -- a slice can hold the state that its bytes decode to
-  pub sized-decoded : (s : List ℕ) → Bytes (stateBytes S) s → Sized S (decodeState S s)
-  unfolding decodeState field fieldsOf
-  sized-decoded s h =
+  sized-as : (s : List ℕ) → Bytes stateBytes s → Sized S (decodeAs S s)
+  unfolding decodeAs field fieldsOf
+  sized-as s h =
       record {
         stage = h .small 0;
         side = h .small 1;
         shared = record { session = omega (arith, h .small 2, h .small 3, h .small 4, h .small 5) };
-        key = cut .0;
-        label = cut .1 .0;
-        keyMask = cut .1 .1 .0;
-        labelMask = cut .1 .1 .1 .0;
-        z = cut .1 .1 .1 .1 .0;
-        r = cut .1 .1 .1 .1 .1 .0;
-        ownMask = cut .1 .1 .1 .1 .1 .1 .0;
+        key = front (cut .0) (roomy .key);
+        label = front (cut .1 .0) (roomy .key);
+        keyMask = front (cut .1 .1 .0) (roomy .key);
+        labelMask = front (cut .1 .1 .1 .0) (roomy .key);
+        z = front (cut .1 .1 .1 .1 .0) (roomy .inner);
+        r = front (cut .1 .1 .1 .1 .1 .0) (omega (arith, roomy .inner));
+        ownMask = front (cut .1 .1 .1 .1 .1 .1 .0) (roomy .inner);
       }
     where
-      cut : Laid (secretsLayout S) (fieldsOf (secretsLayout S) (bodyOf s))
-      cut = laid-fields (secretsLayout S) (bodyOf s) (bytes-drop headerBytes h)
+      cut : Laid rooms (fieldsOf rooms (drop stateHeaderBytes s))
+      cut = laid-fields rooms (drop stateHeaderBytes s) (bytes-drop stateHeaderBytes h)
 
+      front : {room n : ℕ} {t : List ℕ} → Bytes room t → n ≤ room → Bytes n (take n t)
+      front {room} {n} {t} b l = bytes-slice room 0 n t b (omega (arith, l))
+
+module _ (S : Scheme) where
   -- ---- beginnings
 
   -- without a deal
-  sized-halves : (t : Parameters) (stage : ℕ) (key label : List ℕ) → stage < 256 → t .side < 256 → FitsHeader (t .shared)
-      → Bytes (S .keyBytes) key → Bytes (S .keyBytes) label → Sized S (state t stage (halves S key label))
-  sized-halves t stage key label hn hs ht hk hl =
+  sized-halves : (set : ℕ) (t : Parameters) (stage : ℕ) (key label : List ℕ) → stage < 256 → t .side < 256 → FitsHeader (t .shared)
+      → Bytes (S .keyBytes) key → Bytes (S .keyBytes) label → Sized S (state set t stage (halves S key label))
+  sized-halves set t stage key label hn hs ht hk hl =
       record {
         stage = hn;
         side = hs;
@@ -89,33 +98,28 @@ module _ (S : Scheme) where
       }
 
   -- with zeros for all: idle or done
-  sized-cleared : (t : Parameters) (stage : ℕ) → stage < 256 → t .side < 256 → FitsHeader (t .shared) → Sized S (state t stage (nothing S))
-  sized-cleared t stage hn hs ht =
-      sized-halves t stage (nothing S .key) (nothing S .label) hn hs ht (bytes-zeros (S .keyBytes)) (bytes-zeros (S .keyBytes))
+  sized-cleared : (set : ℕ) (t : Parameters) (stage : ℕ) → stage < 256 → t .side < 256 → FitsHeader (t .shared) → Sized S (state set t stage (nothing S))
+  sized-cleared set t stage hn hs ht =
+      sized-halves set t stage (nothing S .key) (nothing S .label) hn hs ht (bytes-zeros (S .keyBytes)) (bytes-zeros (S .keyBytes))
 
-  -- of halves that are bytes, refused or not
-  pub sized-begin : (t : Parameters) (key label : List ℕ) → FitsHeader (t .shared) → AreBytes key → AreBytes label → Sized S (begin S t key label .next)
-  sized-begin t key label hs hk hl = pick (beginNumber S t key label) refl
-    where
-      pick : (n : ℕ) → beginNumber S t key label ≡ n → Sized S (begin S t key label .next)
-      pick zero e =
-          let f = begin-fits S t key label e in
-          subst (Sized S) (sym (begin-accepted S t key label e))
-          (sized-halves t dealKind key label (lit< tt) (omega (arith, f .side-small)) hs
-          (record { size = f .key-length; small = hk }) (record { size = f .label-length; small = hl }))
-      pick (suc n) e =
-          subst (Sized S) (sym (begin-refused S t key label (λ z. suc-ne-zero n (sym e ∙ z))))
-          (sized-cleared (parameters 0 0) 0 (lit< tt) (lit< tt) (record { session = lit< tt }))
+  -- of halves that are bytes and accepted
+  sized-begun : (t : Parameters) (key label : List ℕ) → FitsHeader (t .shared) → AreBytes key → AreBytes label
+      → beginNumber S t key label ≡ 0 → Sized S (begun S t key label)
+  sized-begun t key label hs hk hl e =
+      let f = begin-fits S t key label e in
+      sized-halves (S .set) t dealKind key label (lit< tt) (omega (arith, f .side-small)) hs
+      (record { size = f .key-length; small = hk }) (record { size = f .label-length; small = hl })
 
   -- ---- steps
 
-  -- the next state, and what is written
-  record Held (s : Stepped) : Type 0 where
+  -- the next state, of the same set, and what is written
+  record Held (set : ℕ) (s : Stepped) : Type 0 where
     next : Sized S (s .next)
+    kept : s .next .set ≡ set
     written : AreBytes (s .written)
 
   module _ (u : State) (h : Sized S u) (body : List ℕ) (lent : Files) where
-    held-deal : Bytes (layoutBytes (dealLayout S)) body → Held (takeDeal S u body)
+    held-deal : Bytes (layoutBytes (dealLayout S)) body → Held (u .set) (takeDeal S u body)
     unfolding takeDeal field fieldsOf
     held-deal b =
         record {
@@ -132,6 +136,7 @@ module _ (S : Scheme) where
                 r = cut .1 .1 .1 .0;
                 ownMask = bytes-zeros (S .innerBytes);
               };
+          kept = refl;
           written =
               bytes-frame openKind (u .parameters) (lit< tt) (h .side)
               (bytes-concat (openLayout S) (half (u .secrets .key) 0 ∷ half (u .secrets .label) 1 ∷ []) (bytes-add n _ _, (bytes-add n _ _, tt))) .small;
@@ -146,7 +151,7 @@ module _ (S : Scheme) where
         cut : Laid (dealLayout S) (fieldsOf (dealLayout S) body)
         cut = laid-fields (dealLayout S) body b
 
-    held-open : Held (takeOpen S u body lent)
+    held-open : Held (u .set) (takeOpen S u body lent)
     unfolding takeOpen
     held-open =
         record {
@@ -163,43 +168,104 @@ module _ (S : Scheme) where
                 r = h .r;
                 ownMask = bytes-mask-of S lent _ _ _ _ _ _;
               };
+          kept = refl;
           written = bytes-frame maskKind (u .parameters) (lit< tt) (h .side) (bytes-mask-of S lent _ _ _ _ _ _) .small;
         }
 
-    held-mask : Held (takeMask S u body lent)
+    held-mask : Held (u .set) (takeMask S u body lent)
     unfolding takeMask shareOf
     held-mask =
         record {
-          next = sized-cleared (u .parameters) 4 (lit< tt) (h .side) (h .shared);
+          next = sized-cleared (u .set) (u .parameters) 4 (lit< tt) (h .side) (h .shared);
+          kept = refl;
           written = bytes-frame shareKind (u .parameters) (lit< tt) (h .side) (bytes-code S lent _) .small;
         }
 
-    held-advance : (u .stage ≡ dealKind → Bytes (layoutBytes (dealLayout S)) body) → Held (advance S u body lent)
+    held-advance : (u .stage ≡ dealKind → Bytes (layoutBytes (dealLayout S)) body) → Held (u .set) (advance S u body lent)
     unfolding advance
     held-advance b = pick (eqb (u .stage) dealKind) refl (eqb (u .stage) openKind)
       where
         pick : (d : Bool) → eqb (u .stage) dealKind ≡ d → (o : Bool)
-            → Held (cond d (takeDeal S u body) (cond o (takeOpen S u body lent) (takeMask S u body lent)))
+            → Held (u .set) (cond d (takeDeal S u body) (cond o (takeOpen S u body lent) (takeMask S u body lent)))
         pick true e o = held-deal (b (eqb→eq (u .stage) dealKind (holds _ e)))
         pick false e true = held-open
         pick false e false = held-mask
 
   module _ (u : State) (h : Sized S u) (f : List ℕ) (small : AreBytes f) (lent : Files) (outputLength : ℕ) where
-    held-step : Held (step S u f lent outputLength)
+    held-step : Held (u .set) (step S u f lent outputLength)
     held-step = pick (numberFor S u f lent outputLength) refl
       where
-        pick : (n : ℕ) → numberFor S u f lent outputLength ≡ n → Held (step S u f lent outputLength)
+        pick : (n : ℕ) → numberFor S u f lent outputLength ≡ n → Held (u .set) (step S u f lent outputLength)
         pick zero e =
             let long = fits S (u .parameters) (u .stage) f lent outputLength e .frame-length in
-            subst (Held) (sym (step-accepted S u f lent outputLength e))
+            subst (Held (u .set)) (sym (step-accepted S u f lent outputLength e))
             (held-advance u h (bodyOf f) lent (λ d. bytes-drop headerBytes {s = f} (record { size = long ∙ ap (frameBytes S) d; small = small })))
         pick (suc n) e =
-            subst (Held) (sym (step-refused S u f lent outputLength (λ z. suc-ne-zero n (sym e ∙ sym (step-result S u f lent outputLength) ∙ z))))
-            (record { next = h; written = λ i. lit< tt })
+            subst (Held (u .set)) (sym (step-refused S u f lent outputLength (λ z. suc-ne-zero n (sym e ∙ sym (step-result S u f lent outputLength) ∙ z))))
+            (record { next = h; kept = refl; written = λ i. lit< tt })
 
-    -- of a frame of bytes, refused or not, and whatever the file is
-    pub sized-step : Sized S (step S u f lent outputLength .next)
-    sized-step = held-step .next
+-- ---- in each set
 
-    pub bytes-written : AreBytes (step S u f lent outputLength .written)
-    bytes-written = held-step .written
+roomy : (set : ℕ) → isSet set ≡ true → Roomy (schemeOf set)
+roomy = each (λ set. Roomy (schemeOf set)) (by 1 tt) (by 2 tt) (by 3 tt)
+  where
+    by : (set : ℕ) → T (leb (setBits set / 8) stringRoom) → Roomy (schemeOf set)
+    by set h = record { key = lit≤ h; inner = lit≤ h }
+
+pub bytes-encoded : (u : State) → SizedState u → Bytes stateBytes (encodeState u)
+bytes-encoded u h = bytes-of-state (schemeOf (u .set)) (roomy (u .set) (h .set)) u (each (λ set. set < 256) (lit< tt) (lit< tt) (lit< tt) (u .set) (h .set)) (h .sized)
+
+-- what is written reads back
+pub read-back : (u : State) → SizedState u → decodeState (encodeState u) ≡ u
+read-back u h =
+    ap (λ (set : ℕ). decodeAs (schemeOf set) (encodeState u)) (set-encoded u ∙ counted-is (u .set) (h .set))
+    ∙ decode-encode (schemeOf (u .set)) (roomy (u .set) (h .set)) u (h .sized) refl
+
+-- any bytes decode to a state that a slice can hold
+pub sized-decoded : (s : List ℕ) → Bytes stateBytes s → SizedState (decodeState s)
+unfolding decodeAs
+sized-decoded s h =
+    record { set = counted-set (getD s headerBytes 0); sized = sized-as (schemeOf (setIn s)) (roomy (setIn s) (counted-set (getD s headerBytes 0))) s h }
+
+-- the idle state is one
+sized-idle : SizedState idle
+sized-idle = record { set = refl; sized = sized-cleared base 1 (parameters 0 0) 0 (lit< tt) (lit< tt) (record { session = lit< tt }) }
+
+-- and what a beginning gives, of halves that are bytes, refused or not
+pub sized-begin : (set : ℕ) (t : Parameters) (key label : List ℕ) → FitsHeader (t .shared) → AreBytes key → AreBytes label
+    → SizedState (unitBegin set t key label .next)
+unfolding unitBegin
+sized-begin set t key label hs hk hl = pick (isSet set) refl (beginNumber (schemeOf set) t key label) refl
+  where
+    pick : (b : Bool) → isSet set ≡ b → (n : ℕ) → beginNumber (schemeOf set) t key label ≡ n → SizedState (unitBegin set t key label .next)
+    pick true i zero e =
+        rw (number-in set (beginConditions (schemeOf set) t key label) i, e) (record { set = i; sized = sized-begun (schemeOf set) t key label hs hk hl e })
+    pick true i (suc n) e =
+        rw (number-in set (beginConditions (schemeOf set) t key label) i, e, ne-eqb (suc n) 0 (suc-ne-zero n)) sized-idle
+    pick false i n e = rw (number-none set (beginConditions (schemeOf set) t key label) i) sized-idle
+
+module _ (u : State) (h : SizedState u) (f : List ℕ) (small : AreBytes f) (lent : Files) (outputLength : ℕ) where
+  -- of a frame of bytes, refused or not, and whatever the file is; the set stays
+  pub step-keeps-set : unitStep u f lent outputLength .next .set ≡ u .set
+  step-keeps-set = held-step (schemeOf (u .set)) u (h .sized) f small lent outputLength .kept
+
+  pub sized-step : SizedState (unitStep u f lent outputLength .next)
+  sized-step =
+      let held = held-step (schemeOf (u .set)) u (h .sized) f small lent outputLength in
+      record {
+        set = rw (held .kept) (h .set);
+        sized = subst (λ (set : ℕ). Sized (schemeOf set) (unitStep u f lent outputLength .next)) (sym (held .kept)) (held .next);
+      }
+
+  pub bytes-written : AreBytes (unitStep u f lent outputLength .written)
+  bytes-written = held-step (schemeOf (u .set)) u (h .sized) f small lent outputLength .written
+
+-- the same of the step of the state in a slice
+module _ (s : List ℕ) (h : Bytes stateBytes s) (f : List ℕ) (small : AreBytes f) (lent : Files) (outputLength : ℕ) where
+  pub sized-slice : SizedState (sliceStep s f lent outputLength .next)
+  unfolding decodeAs
+  sized-slice = sized-step (decodeState s) (sized-decoded s h) f small lent outputLength
+
+  pub slice-written : AreBytes (sliceStep s f lent outputLength .written)
+  unfolding decodeAs
+  slice-written = bytes-written (decodeState s) (sized-decoded s h) f small lent outputLength

@@ -238,7 +238,7 @@ module _ (S : Scheme) (a : Inputs) (well : WellFormed S a) where
   -- it is accepted
   pub begins-as : (i : Side) → begin S (parametersOf i (a .shared)) (a .key i) (a .label i) ≡ fresh i
   unfolding begin first beginConditions
-  begins-as i = λ j. record { result = none j; next = cond (eqb (none j) 0) (fresh i .next) (idle S) }
+  begins-as i = λ j. record { result = none j; next = cond (eqb (none j) 0) (fresh i .next) idle }
     where
       low : (i : Side) → ltb 1 (sideByte i) ≡ false
       low side0 = refl

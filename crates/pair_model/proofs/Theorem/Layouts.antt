@@ -1,5 +1,5 @@
 -- Strings laid out as fields one after the other: fields put together and cut again give the fields, and the string.
-use Prim.Native.Nat.{ℕ, zero, suc, _+_}
+use Prim.Native.Nat.{ℕ, zero, suc, _+_, _<_}
 use mathlib.Core.Path.{_≡_, refl, ap, _∙_}
 use mathlib.Core.List.{List, [], _∷_, _++_}
 use native.Mathlib.Omega.{arith}
@@ -9,6 +9,14 @@ use lib.Seq.{take-at, drop-at, getD-drop}
 use Rattle.linear_model.specs.Bits.{Bytes}
 use Rattle.linear_model.proofs.Strings.{bytes-slice, bytes-append}
 use Rattle.pair_model.specs.Scheme.{layoutBytes, field, concat}
+
+-- one byte
+pub bytes-one : (x : ℕ) → x < 256 → Bytes 1 (x ∷ [])
+bytes-one x h = record { size = refl; small = λ i. at i }
+  where
+    at : (i : ℕ) → getD (x ∷ []) i 0 < 256
+    at zero = h
+    at (suc i) = lit< tt
 
 -- strings of these sizes
 abbrev pub Laid : List ℕ → List (List ℕ) → Type 0

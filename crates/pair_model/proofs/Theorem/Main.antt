@@ -1,10 +1,11 @@
--- Demand 3, for every scheme with a product that is linear on both sides, and for the one of document 01.
-use Prim.Native.Nat.{ℕ}
+-- Demand 3, for every scheme with a product that is linear on both sides, among them the circulant ones and those of the sets.
+use Prim.Native.Nat.{ℕ, _/_}
 use mathlib.Core.Path.{ap}
-use mathlib.Core.List.{List}
 use Rattle.linear_model.proofs.Linearity.{circulant-bilinear}
-use Rattle.pair_model.specs.Scheme.{Reading, Scheme, Linear}
-use Rattle.pair_model.specs.Base.{circulantScheme, base}
+use Rattle.numbers.specs.Sets.{setBits, setDigits}
+use Rattle.matrix_model.specs.File.{layoutOf}
+use Rattle.pair_model.specs.Scheme.{Scheme, Linear}
+use Rattle.pair_model.specs.Base.{Format, circulantScheme, blockFormat, schemeOf}
 use Rattle.pair_model.specs.Run.{protocol}
 use Rattle.pair_model.specs.Unit.{Beginning}
 use Rattle.pair_model.specs.Theorem.{Privacy, Begins, Demand3}
@@ -42,16 +43,16 @@ pub begins : (S : Scheme) → Begins (protocol S)
 begins S a well i = ap (λ (b : Beginning). b .result) (begins-as S a well i)
 
 -- the circulant product is linear on both sides
-pub circulant-linear : (n t : ℕ) (reading : Reading) (rows : List ℕ → List ℕ) → Linear (circulantScheme n t reading rows)
-circulant-linear n t reading rows = record { bilinear = λ content. circulant-bilinear n }
+pub circulant-linear : (set n t : ℕ) (F : Format) → Linear (circulantScheme set n t F)
+circulant-linear set n t F = record { bilinear = λ content. circulant-bilinear n }
 
--- so demand 3 holds at every number of bits and digits, whatever is read for the rows
-pub circulant-demand3 : (n t : ℕ) (reading : Reading) (rows : List ℕ → List ℕ) → Demand3 (protocol (circulantScheme n t reading rows))
-circulant-demand3 n t reading rows = demand3 (circulantScheme n t reading rows) (circulant-linear n t reading rows)
+-- so demand 3 holds at every number of bytes and digits, whatever a matrix file is
+pub circulant-demand3 : (set n t : ℕ) (F : Format) → Demand3 (protocol (circulantScheme set n t F))
+circulant-demand3 set n t F = demand3 (circulantScheme set n t F) (circulant-linear set n t F)
 
-pub base-linear : Linear base
-base-linear = circulant-linear 32 81 _ _
+-- of which sets are instances
+pub set-linear : (set : ℕ) → Linear (schemeOf set)
+set-linear set = circulant-linear set (setBits set / 8) (setDigits set) (blockFormat (layoutOf set))
 
--- at 256 bits and 81 digits, with the circulant product and the matrix file: no parameter is left
-pub base-demand3 : Demand3 (protocol base)
-base-demand3 = circulant-demand3 32 81 _ _
+pub set-demand3 : (set : ℕ) → Demand3 (protocol (schemeOf set))
+set-demand3 set = demand3 (schemeOf set) (set-linear set)

@@ -32,7 +32,7 @@ module _ (S : Scheme) (fixed : Side) (a b : Inputs) (t u : List ℕ) (m : InComm
   unfolding unitAt
   same-unit zero = λ j. begun S (parametersOf fixed (g .shared j)) (g .key j) (g .label j)
   same-unit (suc zero) =
-      λ j. state (parametersOf fixed (g .shared j)) openKind (record {
+      λ j. state (S .set) (parametersOf fixed (g .shared j)) openKind (record {
         key = g .key j;
         label = g .label j;
         keyMask = m .keyMask j;
@@ -42,7 +42,7 @@ module _ (S : Scheme) (fixed : Side) (a b : Inputs) (t u : List ℕ) (m : InComm
         ownMask = zeros (S .innerBytes);
       })
   same-unit (suc (suc zero)) =
-      λ j. state (parametersOf fixed (g .shared j)) maskKind (record {
+      λ j. state (S .set) (parametersOf fixed (g .shared j)) maskKind (record {
         key = g .key j;
         label = g .label j;
         keyMask = m .keyMask j;
@@ -51,7 +51,7 @@ module _ (S : Scheme) (fixed : Side) (a b : Inputs) (t u : List ℕ) (m : InComm
         r = m .r j;
         ownMask = m .mask fixed j;
       })
-  same-unit (suc (suc (suc n))) = λ j. done S (parametersOf fixed (g .shared j))
+  same-unit (suc (suc (suc n))) = λ j. done S (S .set) (parametersOf fixed (g .shared j))
 
   same-incoming : (n : ℕ) → incoming S a t fixed n ≡ incoming S b u fixed n
   unfolding incoming dealFrame deal

@@ -66,9 +66,9 @@ module _ (S : Scheme) (a : Inputs) (tape : List ℕ) where
   -- its state after n accepted frames
   unfoldable pub unitAt : Side → ℕ → State
   unitAt i zero = begun S (parametersAt i) (a .key i) (a .label i)
-  unitAt i (suc zero) = state (parametersAt i) openKind (secretsAt i (zeros (S .innerBytes)))
-  unitAt i (suc (suc zero)) = state (parametersAt i) maskKind (secretsAt i (mask S a tape i))
-  unitAt i (suc (suc (suc n))) = done S (parametersAt i)
+  unitAt i (suc zero) = state (S .set) (parametersAt i) openKind (secretsAt i (zeros (S .innerBytes)))
+  unitAt i (suc (suc zero)) = state (S .set) (parametersAt i) maskKind (secretsAt i (mask S a tape i))
+  unitAt i (suc (suc (suc n))) = done S (S .set) (parametersAt i)
 
 -- ---- a deal is made of its fields
 
@@ -177,7 +177,7 @@ module _ (S : Scheme) (L : Linear S) (a : Inputs) (tape : List ℕ) (well : Well
             frame openKind (parametersAt S a tape i)
             (concat (addBits (S .keyBytes) (a .key i) (d 0 j) ∷ addBits (S .keyBytes) (a .label i) (d 1 j) ∷ []));
         next =
-            state (parametersAt S a tape i) openKind (record {
+            state (S .set) (parametersAt S a tape i) openKind (record {
               key = a .key i;
               label = a .label i;
               keyMask = d 0 j;
@@ -204,7 +204,7 @@ module _ (S : Scheme) (L : Linear S) (a : Inputs) (tape : List ℕ) (well : Well
       body = openBody S a tape (other i)
 
       of : List ℕ → Stepped
-      of m = record { result = 0; written = frame maskKind (parametersAt S a tape i) m; next = state (parametersAt S a tape i) maskKind (secretsAt S a tape i m) }
+      of m = record { result = 0; written = frame maskKind (parametersAt S a tape i) m; next = state (S .set) (parametersAt S a tape i) maskKind (secretsAt S a tape i m) }
 
       key : addBits n (openKey S a tape i) (field (openLayout S) 0 body) ≡ total n (openKey S a tape)
       key = ap (addBits n (openKey S a tape i)) (open-field (other i) 0) ∙ own-first n (openKey S a tape) i
@@ -231,7 +231,7 @@ module _ (S : Scheme) (L : Linear S) (a : Inputs) (tape : List ℕ) (well : Well
             frame shareKind (parametersAt S a tape i)
             (matrixProduct (planeBytes (S .digits)) (S .innerBytes) (S .digits) (S .rows (e j))
             (innerShare (S .innerBytes) (sideByte i) (own-first (S .innerBytes) (mask S a tape) i j) (r S tape i)));
-        next = done S (parametersAt S a tape i);
+        next = done S (S .set) (parametersAt S a tape i);
       })
 
   -- frame n as it was sent, with what is read being the run's, is accepted

@@ -25,5 +25,5 @@ pub record Sends (s : Stepped) (frame : List ℕ) (next : State) : Type 0 where
 pub record RunFits (input : List ℕ) (room : ℕ) : Type 0 where
   pub long : length input ≡ inputBytes base
   pub room-is : codeBytes base ≤ room
-  pub file : checkNumber (inputFile base input) ≡ 0
+  pub file : checkNumber 1 (inputFile base input) ≡ 0
   pub tape : unfitTape base (inputTape base input) ≡ false

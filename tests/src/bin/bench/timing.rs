@@ -5,7 +5,7 @@ use std::time::{Duration, Instant};
 
 /// How often every row is timed; the best round counts. The rows take turns, so
 /// that another program which takes the core for a while spoils no row.
-const ROUNDS: usize = 400;
+const ROUNDS: usize = 300;
 /// About how long a round of one side of a row takes.
 const ROUND: Duration = Duration::from_millis(1);
 

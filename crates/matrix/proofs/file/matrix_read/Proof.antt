@@ -1,31 +1,60 @@
--- `matrix::file::matrix_read` meets its contract: document 01's layout fits.
-use mathlib.Core.Path.{_≡_, sym, subst}
+-- `matrix::file::matrix_read` meets its contract, set by set.
+use mathlib.Core.Path.{refl}
 use mathlib.Core.List.{List}
 use Prim.Native.Nat.{ℕ}
-use lib.ListN.{length, take}
 use borrow.Author.Needs.{needs}
-use Rattle.matrix_model.specs.Block.{Layout}
-use Rattle.matrix_model.specs.File.{Fits, rowsSize, readNumberOf, readOutputOf, RestoresOf, matrixB, rowsBytes, readNumber, readOutput, Restores}
-use Rattle.matrix_model.proofs.Layouts.{matrixB-fits}
-use Rattle.matrix_blocks.specs.Layouts.{layoutOf}
+use lib.ListN.{take}
+use Rattle.numbers.specs.Number.{Condition}
+use Rattle.matrix_model.specs.File.{rowsSize, rowsOf, readConditionsOf, RestoresOf, layoutOf, readNumber}
+use Rattle.matrix_model.proofs.Layouts.{first-fits, second-fits, third-fits}
+use Rattle.matrix.proofs.Calls.{of-set, of-none}
 use Rattle.matrix.proofs.file.matrix_read.Statement.{statement}
 use Rattle.matrix.proofs.file.matrix_read.Tie as tie
 
--- what holds of a layout that is document 01's
-of-document : (l : Layout) → l ≡ matrixB → (s old : List ℕ) {r : ℕ} {new : List ℕ}
-    → (r ≡ readNumberOf l s (length old)) × ((new ≡ readOutputOf l s old) × (r ≡ 0 → RestoresOf l (take (rowsSize l) new) s))
-    → (r ≡ readNumber s (length old)) × ((new ≡ readOutput s old) × (r ≡ 0 → Restores (take rowsBytes new) s))
-unfolding readNumber
-of-document l e s old {r} {new} h =
-    subst (λ (l : Layout). (r ≡ readNumberOf l s (length old)) × ((new ≡ readOutputOf l s old) × (r ≡ 0 → RestoresOf l (take (rowsSize l) new) s))) e h
+-- in set k
+abbrev conditions : List ℕ → ℕ → ℕ → List Condition
+conditions s n k = readConditionsOf (layoutOf k) s n
+
+abbrev bytes : List ℕ → ℕ → List ℕ
+bytes s k = rowsOf (layoutOf k) s
+
+abbrev holds : List ℕ → ℕ → List ℕ → Type 0
+holds s k new = RestoresOf (layoutOf k) (take (rowsSize (layoutOf k)) new) s
 
 returns : tie.Need-returns
+unfolding readNumber
 returns c =
     let call = c .before .before in
-    let b = call .before .before in
-    let a = b .before .before .before .args in
-    of-document (layoutOf (b .matrix-b .result)) (b .matrix-b .ensures) (a .file .now) (a .out .now) (call .file-read .ensures)
+    let a = call .before .before .before .before .before .args in
+    let s = a .file .now in
+    of-set (a .set) (conditions s _) (bytes s) (holds s) (a .out .now) 1 (call .before .before .match .keys1) refl (call .file-read .ensures)
+
+returns-2 : tie.Need-returns-2
+unfolding readNumber
+returns-2 c =
+    let call = c .before .before in
+    let a = call .before .before .before .before .before .args in
+    let s = a .file .now in
+    of-set (a .set) (conditions s _) (bytes s) (holds s) (a .out .now) 2 (call .before .before .match .keys2) refl (call .file-read2 .ensures)
+
+returns-3 : tie.Need-returns-3
+unfolding readNumber
+returns-3 c =
+    let call = c .before .before in
+    let a = call .before .before .before .before .before .args in
+    let s = a .file .now in
+    of-set (a .set) (conditions s _) (bytes s) (holds s) (a .out .now) 3 (call .before .before .match .keys3) refl (call .file-read3 .ensures)
+
+returns-4 : tie.Need-returns-4
+unfolding readNumber
+returns-4 c =
+    let a = c .before .before .before .args in
+    let none = c .match .rest in
+    let s = a .file .now in
+    of-none (a .set) (conditions s _) (bytes s) (holds s) (a .out .now) (none .0 .0 .1) (none .0 .1) (none .1)
 
 pub matrix-read-spec : {M : Type 1} → statement M
 matrix-read-spec =
-    tie.close (tie.spec (λ c κs. tt) (λ c κs. subst Fits (sym (c .before .matrix-b .ensures)) matrixB-fits) (λ c. search needs) returns)
+    tie.close
+    (tie.spec (λ c κs. first-fits) (λ c κs. second-fits) (λ c κs. third-fits) (λ c. search needs) returns (λ c. search needs) returns-2
+    (λ c. search needs) returns-3 returns-4)

@@ -1,31 +1,60 @@
--- `matrix::file::matrix_write` meets its contract: document 01's layout fits.
-use mathlib.Core.Path.{_≡_, sym, subst}
+-- `matrix::file::matrix_write` meets its contract, set by set.
+use mathlib.Core.Path.{refl}
 use mathlib.Core.List.{List}
 use Prim.Native.Nat.{ℕ}
-use lib.ListN.{length, take}
 use borrow.Author.Needs.{needs}
-use Rattle.matrix_model.specs.Block.{Layout}
-use Rattle.matrix_model.specs.File.{Fits, fileSize, writeNumberOf, writeOutputOf, SurvivesOf, matrixB, fileBytes, writeNumber, writeOutput, Survives}
-use Rattle.matrix_model.proofs.Layouts.{matrixB-fits}
-use Rattle.matrix_blocks.specs.Layouts.{layoutOf}
+use lib.ListN.{take}
+use Rattle.numbers.specs.Number.{Condition}
+use Rattle.matrix_model.specs.File.{fileSize, fileFrom, writeConditionsOf, SurvivesOf, layoutOf, writeNumber}
+use Rattle.matrix_model.proofs.Layouts.{first-fits, second-fits, third-fits}
+use Rattle.matrix.proofs.Calls.{of-set, of-none}
 use Rattle.matrix.proofs.file.matrix_write.Statement.{statement}
 use Rattle.matrix.proofs.file.matrix_write.Tie as tie
 
--- what holds of a layout that is document 01's
-of-document : (l : Layout) → l ≡ matrixB → (s old : List ℕ) {r : ℕ} {new : List ℕ}
-    → (r ≡ writeNumberOf l s (length old)) × ((new ≡ writeOutputOf l s old) × (r ≡ 0 → SurvivesOf l s (take (fileSize l) new)))
-    → (r ≡ writeNumber s (length old)) × ((new ≡ writeOutput s old) × (r ≡ 0 → Survives s (take fileBytes new)))
-unfolding writeNumber
-of-document l e s old {r} {new} h =
-    subst (λ (l : Layout). (r ≡ writeNumberOf l s (length old)) × ((new ≡ writeOutputOf l s old) × (r ≡ 0 → SurvivesOf l s (take (fileSize l) new)))) e h
+-- in set k
+abbrev conditions : List ℕ → ℕ → ℕ → List Condition
+conditions s n k = writeConditionsOf (layoutOf k) s n
+
+abbrev bytes : List ℕ → ℕ → List ℕ
+bytes s k = fileFrom (layoutOf k) s
+
+abbrev holds : List ℕ → ℕ → List ℕ → Type 0
+holds s k new = SurvivesOf (layoutOf k) s (take (fileSize (layoutOf k)) new)
 
 returns : tie.Need-returns
+unfolding writeNumber
 returns c =
     let call = c .before .before in
-    let b = call .before .before in
-    let a = b .before .before .before .args in
-    of-document (layoutOf (b .matrix-b .result)) (b .matrix-b .ensures) (a .rows .now) (a .out .now) (call .file-write .ensures)
+    let a = call .before .before .before .before .before .args in
+    let s = a .rows .now in
+    of-set (a .set) (conditions s _) (bytes s) (holds s) (a .out .now) 1 (call .before .before .match .keys1) refl (call .file-write .ensures)
+
+returns-2 : tie.Need-returns-2
+unfolding writeNumber
+returns-2 c =
+    let call = c .before .before in
+    let a = call .before .before .before .before .before .args in
+    let s = a .rows .now in
+    of-set (a .set) (conditions s _) (bytes s) (holds s) (a .out .now) 2 (call .before .before .match .keys2) refl (call .file-write2 .ensures)
+
+returns-3 : tie.Need-returns-3
+unfolding writeNumber
+returns-3 c =
+    let call = c .before .before in
+    let a = call .before .before .before .before .before .args in
+    let s = a .rows .now in
+    of-set (a .set) (conditions s _) (bytes s) (holds s) (a .out .now) 3 (call .before .before .match .keys3) refl (call .file-write3 .ensures)
+
+returns-4 : tie.Need-returns-4
+unfolding writeNumber
+returns-4 c =
+    let a = c .before .before .before .args in
+    let none = c .match .rest in
+    let s = a .rows .now in
+    of-none (a .set) (conditions s _) (bytes s) (holds s) (a .out .now) (none .0 .0 .1) (none .0 .1) (none .1)
 
 pub matrix-write-spec : {M : Type 1} → statement M
 matrix-write-spec =
-    tie.close (tie.spec (λ c κs. tt) (λ c κs. subst Fits (sym (c .before .matrix-b .ensures)) matrixB-fits) (λ c. search needs) returns)
+    tie.close
+    (tie.spec (λ c κs. first-fits) (λ c κs. second-fits) (λ c κs. third-fits) (λ c. search needs) returns (λ c. search needs) returns-2
+    (λ c. search needs) returns-3 returns-4)

@@ -3,7 +3,7 @@ use mathlib.Core.Path.{_∙_}
 use native.Mathlib.Omega.{arith}
 use Rattle.linear_model.specs.Tables.{every}
 use Rattle.matrix_model.proofs.Layouts.{count-byte}
-use Rattle.matrix_blocks.specs.Layouts.{layoutOf}
+use Rattle.matrix_blocks.specs.Layouts.{layoutIn}
 use Rattle.matrix_blocks.proofs.blocks.head_holds.Statement.{statement}
 use Rattle.matrix_blocks.proofs.blocks.head_holds.Tie as tie
 
@@ -11,7 +11,7 @@ cast-both-2 : tie.Need-cast-both-2
 cast-both-2 c =
     let n = c .before .before .before .before .before in
     let a = n .before .before in
-    omega (arith, n .rows-in .ensures, count-byte (layoutOf (a .args .layout)) (a .pre .0) (a .args .b))
+    omega (arith, n .rows-in .ensures, count-byte (layoutIn (a .args .layout)) (a .pre .0) (a .args .b))
 
 returns : tie.Need-returns
 unfolding every

@@ -7,14 +7,14 @@ use Rattle.linear_model.specs.Tables.{every}
 use Rattle.matrix_model.specs.Block.{zeroByte, laidOut}
 use Rattle.matrix_model.proofs.Layouts.{before-check}
 use Rattle.matrix_model.proofs.Internal.Blocks.{unused-part}
-use Rattle.matrix_blocks.specs.Layouts.{layoutOf}
+use Rattle.matrix_blocks.specs.Layouts.{layoutIn}
 use Rattle.matrix_blocks.proofs.blocks.laid_out.Statement.{statement}
 use Rattle.matrix_blocks.proofs.blocks.laid_out.Tie as tie
 
 room : (c : tie.After-bytes-in) → 4 + c .bytes-in .result ≤ 510
 room c =
     let a = c .before .before in
-    rw (c .bytes-in .ensures) (before-check (layoutOf (a .args .layout)) (a .pre .0) (a .args .b))
+    rw (c .bytes-in .ensures) (before-check (layoutIn (a .args .layout)) (a .pre .0) (a .args .b))
 
 returns : tie.Need-returns
 unfolding laidOut

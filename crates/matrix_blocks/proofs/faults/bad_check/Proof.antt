@@ -6,7 +6,7 @@ use Rattle.matrix_model.specs.Block.{checkHolds}
 use Rattle.matrix_model.specs.File.{checkedBlock, badCheckOf}
 use Rattle.matrix_model.proofs.Internal.Blocks.{long-block}
 use Rattle.matrix_model.proofs.Internal.Tests.{Passing, passing-none, passing-more, passing-fails, passing-all}
-use Rattle.matrix_blocks.specs.Layouts.{layoutOf}
+use Rattle.matrix_blocks.specs.Layouts.{layoutIn}
 use Rattle.matrix_blocks.proofs.faults.bad_check.Statement.{statement}
 use Rattle.matrix_blocks.proofs.faults.bad_check.Tie as tie
 
@@ -20,7 +20,7 @@ check-holds-requires : tie.Need-check-holds-requires Inv-loop μ-loop
 check-holds-requires c κs =
     let l = c .before .before in
     let a = l .before .before .before in
-    long-block (layoutOf (a .args .layout)) (a .args .file .now) (l .loop .b) (c .block-at .result .now) (c .block-at .ensures) (a .pre .1) (omega (arith, l .before .block-count .ensures))
+    long-block (layoutIn (a .args .layout)) (a .args .file .now) (l .loop .b) (c .block-at .result .now) (c .block-at .ensures) (a .pre .1) (omega (arith, l .before .block-count .ensures))
 
 -- what the test says
 found : (c : tie.After-check-holds Inv-loop μ-loop)

@@ -6,12 +6,12 @@ use Rattle.matrix_model.specs.Block.{laidOut}
 use Rattle.matrix_model.specs.File.{laidOutBlock, badLayoutOf}
 use Rattle.matrix_model.proofs.Internal.Blocks.{long-block}
 use Rattle.matrix_model.proofs.Internal.Tests.{Passing, passing-none, passing-more, passing-fails, passing-all}
-use Rattle.matrix_blocks.specs.Layouts.{layoutOf}
+use Rattle.matrix_blocks.specs.Layouts.{layoutIn}
 use Rattle.matrix_blocks.proofs.faults.bad_layout.Statement.{statement}
 use Rattle.matrix_blocks.proofs.faults.bad_layout.Tie as tie
 
 abbrev Inv-loop : tie.InvT-loop
-Inv-loop layout file n b₀ b = Passing (laidOutBlock (layoutOf layout) file) n b
+Inv-loop layout file n b₀ b = Passing (laidOutBlock (layoutIn layout) file) n b
 
 abbrev μ-loop : tie.MeasureT-loop
 μ-loop layout file n b₀ b = n - b
@@ -20,16 +20,16 @@ laid-out-requires : tie.Need-laid-out-requires Inv-loop μ-loop
 laid-out-requires c κs =
     let l = c .before .before in
     let a = l .before .before .before in
-    (a .pre .0, long-block (layoutOf (a .args .layout)) (a .args .file .now) (l .loop .b) (c .block-at .result .now) (c .block-at .ensures) (a .pre .1) (omega (arith, l .before .block-count .ensures)), omega (arith, l .before .block-count .ensures))
+    (a .pre .0, long-block (layoutIn (a .args .layout)) (a .args .file .now) (l .loop .b) (c .block-at .result .now) (c .block-at .ensures) (a .pre .1) (omega (arith, l .before .block-count .ensures)), omega (arith, l .before .block-count .ensures))
 
 -- what the test says
 found : (c : tie.After-laid-out Inv-loop μ-loop)
     → (let l = c .before .before .before in
     let a = l .before .before .before .args in
-    laidOutBlock (layoutOf (a .layout)) (a .file .now) (l .loop .b) ≡ c .laid-out .result)
+    laidOutBlock (layoutIn (a .layout)) (a .file .now) (l .loop .b) ≡ c .laid-out .result)
 found c =
     let l = c .before .before .before in
-    ap (laidOut (layoutOf (l .before .before .before .args .layout)) (l .loop .b)) (sym (c .before .block-at .ensures)) ∙ sym (c .laid-out .ensures)
+    ap (laidOut (layoutIn (l .before .before .before .args .layout)) (l .loop .b)) (sym (c .before .block-at .ensures)) ∙ sym (c .laid-out .ensures)
 
 loop-again : tie.Need-loop-again Inv-loop μ-loop
 loop-again c = passing-more (c .before .before .before .before .loop .inv) (omega arith) (found (c .before) ∙ c .if1 .taken)

@@ -1,23 +1,21 @@
 -- `matrix_digits::digits::code_of` meets its contract. The invariant of its loop: the first p bytes of each plane are those of the product, and
 -- what is gathered comes after them.
-use mathlib.Core.Path.{_≡_}
 use Prim.Native.Nat.{_+_, _-_, _*_, _≤_, min}
 use native.Mathlib.Omega.{arith}
 use lib.ListN.{length-set}
 use Rattle.linear_model.specs.Products.{matrixProduct}
-use Rattle.linear_model.specs.Internal.Planes.{PlaneBits}
 use Rattle.linear_model.proofs.Filling.{Planes, planes-none, planes-more, planes-all}
 use Rattle.matrix_model.specs.Internal.Digits.{codeDigit, Gathering}
 use Rattle.matrix_model.proofs.Layouts.{count-small}
 use Rattle.matrix_model.proofs.Internal.Digits.{code-small, code-past, gathering-none, gathering-byte, gathering-left}
-use Rattle.matrix_blocks.specs.Layouts.{layoutOf}
+use Rattle.matrix_blocks.specs.Layouts.{layoutIn}
 use Rattle.matrix_digits.proofs.digits.code_of.Statement.{statement}
 use Rattle.matrix_digits.proofs.digits.code_of.Tie as tie
 
 abbrev Inv-loop : tie.InvT-loop
 Inv-loop layout file v out₀ count n g₀ p₀ out g p =
-    Planes n (codeDigit (layoutOf layout) file v) p out₀ out
-    × Gathering (layoutOf layout) (codeDigit (layoutOf layout) file v) (8 * p) (g .done) (g .block) (g .place) (g .low) (g .high)
+    Planes n (codeDigit (layoutIn layout) file v) p out₀ out
+    × Gathering (layoutIn layout) (codeDigit (layoutIn layout) file v) (8 * p) (g .done) (g .block) (g .place) (g .low) (g .high)
     × (min (8 * p) count ≤ g .done)
 
 abbrev μ-loop : tie.MeasureT-loop
@@ -27,7 +25,7 @@ abbrev μ-loop : tie.MeasureT-loop
 few : (c : tie.In-loop Inv-loop μ-loop) → c .before .before .before .before .before .args .layout .«row_count» ≤ 253 * 255
 few c =
     let a = c .before .before .before .before .before in
-    count-small (layoutOf (a .args .layout)) (a .pre .0)
+    count-small (layoutIn (a .args .layout)) (a .pre .0)
 
 gather-requires : tie.Need-gather-requires Inv-loop μ-loop
 gather-requires c κs =
@@ -45,7 +43,7 @@ loop-again c =
     let s = c .before .before .before in
     let l = s .before .before .before in
     let a = l .before .before .before .before in
-    let layout = layoutOf (a .args .layout) in
+    let layout = layoutIn (a .args .layout) in
     let small = code-small layout (a .pre .0) (a .args .file .now) (a .args .v .now) in
     let past = code-past layout (a .pre .0) (a .args .file .now) (a .args .v .now) in
     let p = l .loop .p in
@@ -67,7 +65,7 @@ code-of-spec =
     (tie.spec
     Inv-loop
     μ-loop
-    (λ c. omega (arith, count-small (layoutOf (c .before .before .before .args .layout)) (c .before .before .before .pre .0)))
+    (λ c. omega (arith, count-small (layoutIn (c .before .before .before .args .layout)) (c .before .before .before .pre .0)))
     (λ c. (planes-none (omega arith), gathering-none (c .before .before .before .pre .0), omega arith))
     (λ c. omega (arith, few c))
     (λ c. omega (arith, few c))

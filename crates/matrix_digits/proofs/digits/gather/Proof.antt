@@ -2,13 +2,13 @@
 use Prim.Native.Nat.{_-_, _≤_}
 use native.Mathlib.Omega.{arith}
 use Rattle.matrix_model.specs.Internal.Digits.{codeDigit, Gathering}
-use Rattle.matrix_blocks.specs.Layouts.{layoutOf}
+use Rattle.matrix_blocks.specs.Layouts.{layoutIn}
 use Rattle.matrix_digits.proofs.digits.gather.Statement.{statement}
 use Rattle.matrix_digits.proofs.digits.gather.Tie as tie
 
 abbrev Inv-loop : tie.InvT-loop
 Inv-loop layout file v start end g all =
-    Gathering (layoutOf layout) (codeDigit (layoutOf layout) file v) start (all .done) (all .block) (all .place) (all .low) (all .high) × (start ≤ all .done)
+    Gathering (layoutIn layout) (codeDigit (layoutIn layout) file v) start (all .done) (all .block) (all .place) (all .low) (all .high) × (start ≤ all .done)
 
 abbrev μ-loop : tie.MeasureT-loop
 μ-loop layout file v start end g all = end - all .done

@@ -8,21 +8,21 @@ use lib.ListN.{length, take, drop}
 use Rattle.linear_model.specs.Products.{matrixProduct}
 use Rattle.matrix_model.proofs.Layouts.{next-rows}
 use Rattle.matrix_model.proofs.Internal.Digits.{piece-within, among-piece, piece-span}
-use Rattle.matrix_blocks.specs.Layouts.{layoutOf}
+use Rattle.matrix_blocks.specs.Layouts.{layoutIn}
 use Rattle.matrix_digits.proofs.digits.piece.Statement.{statement}
 use Rattle.matrix_digits.proofs.digits.piece.Tie as tie
 
 within : (c : tie.Start)
-    → 512 * c .args .b + 4 + layoutOf (c .args .layout) .rowBytes * c .args .r + layoutOf (c .args .layout) .rowBytes * c .args .n ≤ length (c .args .file .now)
+    → 512 * c .args .b + 4 + layoutIn (c .args .layout) .rowBytes * c .args .r + layoutIn (c .args .layout) .rowBytes * c .args .n ≤ length (c .args .file .now)
 within c =
-    piece-within (layoutOf (c .args .layout)) (c .pre .0) (c .args .file .now) (c .args .v .now) (c .args .b) (c .args .r) (c .args .n) (c .pre .1) (c .pre .3) (c .pre .4)
+    piece-within (layoutIn (c .args .layout)) (c .pre .0) (c .args .file .now) (c .args .v .now) (c .args .b) (c .args .r) (c .args .n) (c .pre .1) (c .pre .3) (c .pre .4)
 
 returns : tie.Need-returns
 returns c =
     let m = c .before .before .before in
     let s = m .before .before .before .before .before .before .before in
     let a = s .args in
-    let layout = layoutOf (a .layout) in
+    let layout = layoutIn (a .layout) in
     let at = 512 * a .b + 4 + layout .rowBytes * a .r in
     let part = take (layout .rowBytes * a .n) (drop at (a .file .now)) in
     let k : at + layout .rowBytes * a .n - at ≡ layout .rowBytes * a .n = omega arith in

@@ -4,7 +4,7 @@ use borrow.Author.Tests.{eq-eqb, ne-eqb}
 use lib.ListN.{length}
 use Rattle.numbers.specs.Number.{first}
 use Rattle.matrix_model.specs.File.{fileSize}
-use Rattle.matrix_blocks.specs.Layouts.{layoutOf}
+use Rattle.matrix_blocks.specs.Layouts.{layoutIn}
 use Rattle.matrix_files.proofs.file.file_check.Statement.{statement}
 use Rattle.matrix_files.proofs.file.file_check.Tie as tie
 
@@ -12,14 +12,14 @@ returns : tie.Need-returns
 unfolding first
 returns c =
     let a = c .before .before .before .args in
-    rw (ne-eqb (length (a .file .now)) (fileSize (layoutOf (a .layout))) (λ z. c .if1 .taken (z ∙ sym (c .before .file-size .ensures))))
+    rw (ne-eqb (length (a .file .now)) (fileSize (layoutIn (a .layout))) (λ z. c .if1 .taken (z ∙ sym (c .before .file-size .ensures))))
 
 returns-2 : tie.Need-returns-2
 unfolding first
 returns-2 c =
     let s = c .before .before in
     let a = s .before .before .args in
-    c .file-number .ensures ∙ rw (eq-eqb (length (a .file .now)) (fileSize (layoutOf (a .layout))) (c .before .if1 .left ∙ s .file-size .ensures))
+    c .file-number .ensures ∙ rw (eq-eqb (length (a .file .now)) (fileSize (layoutIn (a .layout))) (c .before .if1 .left ∙ s .file-size .ensures))
 
 pub file-check-spec : {M : Type 1} → statement M
 file-check-spec =

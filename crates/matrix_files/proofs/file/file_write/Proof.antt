@@ -10,38 +10,38 @@ use Rattle.numbers.specs.Number.{first}
 use Rattle.matrix_model.specs.File.{fileSize, rowsSize, fileFrom, rowFaultsOf, writeNumberOf}
 use Rattle.numbers.proofs.Outputs.{refusal, success}
 use Rattle.matrix_model.proofs.RoundTrip.{length-file, survives}
-use Rattle.matrix_blocks.specs.Layouts.{layoutOf}
+use Rattle.matrix_blocks.specs.Layouts.{layoutIn}
 use Rattle.matrix_files.proofs.file.file_write.Statement.{statement}
 use Rattle.matrix_files.proofs.file.file_write.Tie as tie
 
-long : (c : tie.Else1) → (let a = c .before .before .before .before .args in length (a .rows .now) ≡ rowsSize (layoutOf (a .layout)))
+long : (c : tie.Else1) → (let a = c .before .before .before .before .args in length (a .rows .now) ≡ rowsSize (layoutIn (a .layout)))
 long c = c .if1 .left ∙ c .before .rows-size .ensures
 
-room : (c : tie.Else2) → (let a = c .before .before .before .before .before .before .args in fileSize (layoutOf (a .layout)) ≤ length (a .out .now))
+room : (c : tie.Else2) → (let a = c .before .before .before .before .before .before .args in fileSize (layoutIn (a .layout)) ≤ length (a .out .now))
 room c = omega (arith, c .before .file-size .ensures)
 
 -- where both lengths are right the rows decide
 decided : (c : tie.Else2)
     → (let a = c .before .before .before .before .before .before .args in
-    first (rowFaultsOf (layoutOf (a .layout)) (a .rows .now)) ≡ writeNumberOf (layoutOf (a .layout)) (a .rows .now) (length (a .out .now)))
+    first (rowFaultsOf (layoutIn (a .layout)) (a .rows .now)) ≡ writeNumberOf (layoutIn (a .layout)) (a .rows .now) (length (a .out .now)))
 unfolding first
 decided c =
     let a = c .before .before .before .before .before .before .args in
-    let layout = layoutOf (a .layout) in
+    let layout = layoutIn (a .layout) in
     rw (eq-eqb (length (a .rows .now)) (rowsSize layout) (long (c .before .before)), le-ltb (length (a .out .now)) (fileSize layout) (room c))
 
 returns : tie.Need-returns
 unfolding first
 returns c =
     let a = c .before .before .before .before .args in
-    refusal _ _ (rw (ne-eqb (length (a .rows .now)) (rowsSize (layoutOf (a .layout))) (λ z. c .if1 .taken (z ∙ sym (c .before .rows-size .ensures))))) (λ z. omega arith)
+    refusal _ _ (rw (ne-eqb (length (a .rows .now)) (rowsSize (layoutIn (a .layout))) (λ z. c .if1 .taken (z ∙ sym (c .before .rows-size .ensures))))) (λ z. omega arith)
 
 returns-2 : tie.Need-returns-2
 unfolding first
 returns-2 c =
     let l = c .before .before in
     let a = l .before .before .before .before .args in
-    let layout = layoutOf (a .layout) in
+    let layout = layoutIn (a .layout) in
     refusal _ _ (rw (eq-eqb (length (a .rows .now)) (rowsSize layout) (long l), lt-ltb (length (a .out .now)) (fileSize layout) (omega (arith, c .before .file-size .ensures)))) (λ z. omega arith)
 
 returns-3 : tie.Need-returns-3
@@ -53,7 +53,7 @@ returns-4 c =
     let n = w .before .before .before in
     let d = n .before in
     let a = d .before .before .before .before .before .before in
-    let layout = layoutOf (a .args .layout) in
+    let layout = layoutIn (a .args .layout) in
     let set = a .args .rows .now in
     let z : n .all-rows-number .result ≡ 0 = w .before .before .if3 .left in
     let e = w .write-blocks .ensures in

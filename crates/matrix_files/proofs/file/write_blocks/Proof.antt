@@ -9,12 +9,12 @@ use Rattle.linear_model.proofs.Copies.{Copied}
 use Rattle.matrix_model.specs.File.{blockCount, fileSize, fileByte, fileFrom}
 use Rattle.matrix_model.proofs.Internal.Copies.{copied-none, copied-long, copied-table}
 use Rattle.matrix_model.proofs.Blocks.{length-block, block-part}
-use Rattle.matrix_blocks.specs.Layouts.{layoutOf}
+use Rattle.matrix_blocks.specs.Layouts.{layoutIn}
 use Rattle.matrix_files.proofs.file.write_blocks.Statement.{statement}
 use Rattle.matrix_files.proofs.file.write_blocks.Tie as tie
 
 abbrev Inv-loop : tie.InvT-loop
-Inv-loop layout rows out₀ n b₀ out b = (b ≤ n) × Copied (tabulate (512 * b) (fileByte (layoutOf layout) rows)) out₀ out
+Inv-loop layout rows out₀ n b₀ out b = (b ≤ n) × Copied (tabulate (512 * b) (fileByte (layoutIn layout) rows)) out₀ out
 
 abbrev μ-loop : tie.MeasureT-loop
 μ-loop layout rows out₀ n b₀ out b = n - b
@@ -24,21 +24,21 @@ unfolding tabulate
 loop-holds c = (omega arith, copied-none)
 
 -- b is a block
-inside : (c : tie.In-loop Inv-loop μ-loop) → c .before .loop .b < blockCount (layoutOf (c .before .before .before .before .before .args .layout))
+inside : (c : tie.In-loop Inv-loop μ-loop) → c .before .loop .b < blockCount (layoutIn (c .before .before .before .before .before .args .layout))
 inside c = omega (arith, c .before .before .block-count .ensures)
 
 long : (c : tie.After-block-of Inv-loop μ-loop) → length (c .block-of .result) ≡ 512
 long c =
     let l = c .before .before in
     let a = l .before .before .before .before in
-    ap length (c .block-of .ensures) ∙ length-block (layoutOf (a .args .layout)) (a .pre .0) (a .args .rows .now) (a .pre .1) (l .loop .b) (inside (c .before))
+    ap length (c .block-of .ensures) ∙ length-block (layoutIn (a .args .layout)) (a .pre .0) (a .args .rows .now) (a .pre .1) (l .loop .b) (inside (c .before))
 
 loop-again : tie.Need-loop-again Inv-loop μ-loop
 loop-again c =
     let r = c .before .before .before .before .before in
     let l = r .before .before in
     let a = l .before .before .before .before in
-    let layout = layoutOf (a .args .layout) in
+    let layout = layoutIn (a .args .layout) in
     let rows = a .args .rows .now in
     let b = l .loop .b in
     let i = inside (r .before) in
@@ -53,7 +53,7 @@ unfolding fileFrom
 returns c =
     let l = c .before in
     let a = l .before .before .before .before in
-    let layout = layoutOf (a .args .layout) in
+    let layout = layoutIn (a .args .layout) in
     let e : 512 * l .loop .b ≡ fileSize layout = omega (arith, l .before .block-count .ensures) in
     let w = rw e at (l .loop .inv .1) in
     rw (length-tabulate (fileSize layout) (fileByte layout (a .args .rows .now))) at (w .is)

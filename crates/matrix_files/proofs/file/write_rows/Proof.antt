@@ -11,13 +11,13 @@ use Rattle.matrix_model.specs.File.{blockCount, rowsSize, rowByte, rowsOf}
 use Rattle.matrix_model.proofs.Layouts.{next-bytes, covered-bytes}
 use Rattle.matrix_model.proofs.Internal.Copies.{copied-none, copied-long, copied-table}
 use Rattle.matrix_model.proofs.Internal.Rows.{rows-part, long-part}
-use Rattle.matrix_blocks.specs.Layouts.{layoutOf}
+use Rattle.matrix_blocks.specs.Layouts.{layoutIn}
 use Rattle.matrix_files.proofs.file.write_rows.Statement.{statement}
 use Rattle.matrix_files.proofs.file.write_rows.Tie as tie
 
 abbrev Inv-loop : tie.InvT-loop
 Inv-loop layout file out₀ n b₀ out b =
-    (b ≤ n) × Copied (tabulate (min (layoutOf layout .rowBytes * layoutOf layout .blockRows * b) (rowsSize (layoutOf layout))) (rowByte (layoutOf layout) file)) out₀ out
+    (b ≤ n) × Copied (tabulate (min (layoutIn layout .rowBytes * layoutIn layout .blockRows * b) (rowsSize (layoutIn layout))) (rowByte (layoutIn layout) file)) out₀ out
 
 abbrev μ-loop : tie.MeasureT-loop
 μ-loop layout file out₀ n b₀ out b = n - b
@@ -25,29 +25,29 @@ abbrev μ-loop : tie.MeasureT-loop
 loop-holds : tie.Need-loop-holds Inv-loop μ-loop
 unfolding tabulate
 loop-holds c =
-    let layout = layoutOf (c .before .before .before .args .layout) in
+    let layout = layoutIn (c .before .before .before .args .layout) in
     let e : min (layout .rowBytes * layout .blockRows * 0) (rowsSize layout) ≡ 0 = omega arith in
     (omega arith, rw e copied-none)
 
 -- b is a block
-inside : (c : tie.In-loop Inv-loop μ-loop) → c .before .loop .b < blockCount (layoutOf (c .before .before .before .before .before .args .layout))
+inside : (c : tie.In-loop Inv-loop μ-loop) → c .before .loop .b < blockCount (layoutIn (c .before .before .before .before .before .args .layout))
 inside c = omega (arith, c .before .before .block-count .ensures)
 
 long : (c : tie.After-rows-of-block Inv-loop μ-loop)
     → (let l = c .before .before in
-    let layout = layoutOf (l .before .before .before .before .args .layout) in
+    let layout = layoutIn (l .before .before .before .before .args .layout) in
     length (c .rows-of-block .result .now) ≡ layout .rowBytes * rowsIn layout (l .loop .b))
 long c =
     let l = c .before .before in
     let a = l .before .before .before .before in
-    long-part (layoutOf (a .args .layout)) (a .pre .0) (a .args .file .now) (l .loop .b) (a .pre .1) (inside (c .before)) (c .rows-of-block .result .now) (c .rows-of-block .ensures)
+    long-part (layoutIn (a .args .layout)) (a .pre .0) (a .args .file .now) (l .loop .b) (a .pre .1) (inside (c .before)) (c .rows-of-block .result .now) (c .rows-of-block .ensures)
 
 put-requires : tie.Need-put-requires Inv-loop μ-loop
 put-requires c κs =
     let r = c .before .before in
     let l = r .before .before in
     let a = l .before .before .before .before in
-    omega (arith, c .bytes-before .ensures, long r, next-bytes (layoutOf (a .args .layout)) (a .pre .0) (l .loop .b) (inside (r .before)), copied-long (l .loop .inv .1))
+    omega (arith, c .bytes-before .ensures, long r, next-bytes (layoutIn (a .args .layout)) (a .pre .0) (l .loop .b) (inside (r .before)), copied-long (l .loop .inv .1))
 
 loop-again : tie.Need-loop-again Inv-loop μ-loop
 loop-again c =
@@ -55,7 +55,7 @@ loop-again c =
     let r = s .before .before in
     let l = r .before .before in
     let a = l .before .before .before .before in
-    let layout = layoutOf (a .args .layout) in
+    let layout = layoutIn (a .args .layout) in
     let file = a .args .file .now in
     let b = l .loop .b in
     let at = layout .rowBytes * layout .blockRows * b in
@@ -73,7 +73,7 @@ unfolding rowsOf
 returns c =
     let l = c .before in
     let a = l .before .before .before .before in
-    let layout = layoutOf (a .args .layout) in
+    let layout = layoutIn (a .args .layout) in
     let d : l .loop .b ≡ blockCount layout = omega (arith, l .before .block-count .ensures) in
     let e : min (layout .rowBytes * layout .blockRows * l .loop .b) (rowsSize layout) ≡ rowsSize layout = rw d (omega (arith, covered-bytes layout (a .pre .0))) in
     let w = rw e at (l .loop .inv .1) in

@@ -8,59 +8,59 @@ use Rattle.matrix_model.specs.File.{blockCount, badTritOf, zeroRowOf, rowFaults
 use Rattle.matrix_model.specs.Internal.Rows.{rowsNumber, rowsHeld}
 use Rattle.matrix_model.proofs.Layouts.{started, covered, next-rows}
 use Rattle.matrix_model.proofs.Internal.RowNumbers.{Among, among-block, length-held, Judging, judging-none, judging-all, judging-found, judging-kept, judging-unfit}
-use Rattle.matrix_blocks.specs.Layouts.{layoutOf}
+use Rattle.matrix_blocks.specs.Layouts.{layoutIn}
 use Rattle.matrix_rows.proofs.rows.all_rows_number.Statement.{statement}
 use Rattle.matrix_rows.proofs.rows.all_rows_number.Tie as tie
 
 abbrev Inv-loop : tie.InvT-loop
 Inv-loop layout s in-blocks blocks number₀ b₀ number b =
-    (b ≤ blocks) × Judging (layoutOf layout) (rowsHeld (layoutOf layout) in-blocks s) (min (layoutOf layout .blockRows * b) (layoutOf layout .rowCount)) number
+    (b ≤ blocks) × Judging (layoutIn layout) (rowsHeld (layoutIn layout) in-blocks s) (min (layoutIn layout .blockRows * b) (layoutIn layout .rowCount)) number
 
 abbrev μ-loop : tie.MeasureT-loop
 μ-loop layout s in-blocks blocks number₀ b₀ number b = blocks - b
 
 loop-holds : tie.Need-loop-holds Inv-loop μ-loop
 loop-holds c =
-    let layout = layoutOf (c .before .before .args .layout) in
+    let layout = layoutIn (c .before .before .args .layout) in
     let e : min (layout .blockRows * 0) (layout .rowCount) ≡ 0 = omega arith in
     (omega arith, rw e judging-none)
 
 -- b is a block
-inside : (c : tie.In-loop Inv-loop μ-loop) → c .before .loop .b < blockCount (layoutOf (c .before .before .before .before .args .layout))
+inside : (c : tie.In-loop Inv-loop μ-loop) → c .before .loop .b < blockCount (layoutIn (c .before .before .before .before .args .layout))
 inside c = omega (arith, c .before .before .block-count .ensures)
 
 -- the rows that are looked at, after those of the blocks before
 block : (c : tie.After-rows-in Inv-loop μ-loop)
     → (let l = c .before .before .before in
     let a = l .before .before .before .args in
-    Among (layoutOf (a .layout)) (rowsHeld (layoutOf (a .layout)) (a .in-blocks) (a .s .now)) (layoutOf (a .layout) .blockRows * l .loop .b) (c .rows-in .result) (c .before .rows-at .result .now))
+    Among (layoutIn (a .layout)) (rowsHeld (layoutIn (a .layout)) (a .in-blocks) (a .s .now)) (layoutIn (a .layout) .blockRows * l .loop .b) (c .rows-in .result) (c .before .rows-at .result .now))
 block c =
     let l = c .before .before .before in
     let a = l .before .before .before in
-    let layout = layoutOf (a .args .layout) in
+    let layout = layoutIn (a .args .layout) in
     rw (c .rows-in .ensures)
     (among-block layout (a .pre .0) (l .loop .b) (length-held layout (a .args .in-blocks) (a .args .s .now) (a .pre .1)) (inside (c .before .before)) (c .before .rows-at .ensures))
 
 before : (c : tie.After-rows-in Inv-loop μ-loop)
     → (let l = c .before .before .before in
     let a = l .before .before .before .args in
-    Judging (layoutOf (a .layout)) (rowsHeld (layoutOf (a .layout)) (a .in-blocks) (a .s .now)) (layoutOf (a .layout) .blockRows * l .loop .b) (l .loop .number))
+    Judging (layoutIn (a .layout)) (rowsHeld (layoutIn (a .layout)) (a .in-blocks) (a .s .now)) (layoutIn (a .layout) .blockRows * l .loop .b) (l .loop .number))
 before c =
     let l = c .before .before .before in
     let a = l .before .before .before in
-    let layout = layoutOf (a .args .layout) in
+    let layout = layoutIn (a .args .layout) in
     let e : min (layout .blockRows * l .loop .b) (layout .rowCount) ≡ layout .blockRows * l .loop .b = omega (arith, started layout (a .pre .0) (l .loop .b) (inside (c .before .before))) in
     rw e at (l .loop .inv .1)
 
 -- the rows before the next block
 next : (c : tie.After-rows-in Inv-loop μ-loop)
     → (let l = c .before .before .before in
-    let layout = layoutOf (l .before .before .before .args .layout) in
+    let layout = layoutIn (l .before .before .before .args .layout) in
     min (layout .blockRows * (l .loop .b + 1)) (layout .rowCount) ≡ layout .blockRows * l .loop .b + c .rows-in .result)
 next c =
     let l = c .before .before .before in
     let a = l .before .before .before in
-    omega (arith, c .rows-in .ensures, next-rows (layoutOf (a .args .layout)) (a .pre .0) (l .loop .b) (inside (c .before .before)))
+    omega (arith, c .rows-in .ensures, next-rows (layoutIn (a .args .layout)) (a .pre .0) (l .loop .b) (inside (c .before .before)))
 
 returns : tie.Need-returns Inv-loop μ-loop
 unfolding first rowFaultsOf badTritOf zeroRowOf rowsNumber
@@ -83,7 +83,7 @@ unfolding first rowFaultsOf badTritOf zeroRowOf rowsNumber
 returns-2 c =
     let l = c .before in
     let a = l .before .before .before in
-    let layout = layoutOf (a .args .layout) in
+    let layout = layoutIn (a .args .layout) in
     let e : l .loop .b ≡ blockCount layout = omega (arith, l .before .block-count .ensures) in
     judging-all (layout .rowCount) (l .loop .inv .1) (rw e (omega (arith, covered layout (a .pre .0))))
 

@@ -1,17 +1,16 @@
 -- `matrix_rows::rows::rows_number` meets its contract. The invariant of its loop: the number is that of the rows before i, which are fit.
-use mathlib.Core.Path.{_∙_}
 use mathlib.Core.Logic.{⊎-elim}
 use Prim.Native.Nat.{_+_, _-_, _*_, _≤_}
 use native.Mathlib.Nat.{mul-le-mul-left}
 use native.Mathlib.Omega.{arith}
 use lib.ListN.{length}
 use Rattle.matrix_model.proofs.Internal.RowNumbers.{Among, among-part, one-part, Judging, judging-none, judging-all, judging-found, judging-kept, judging-unfit}
-use Rattle.matrix_blocks.specs.Layouts.{layoutOf}
+use Rattle.matrix_blocks.specs.Layouts.{layoutIn}
 use Rattle.matrix_rows.proofs.rows.rows_number.Statement.{statement}
 use Rattle.matrix_rows.proofs.rows.rows_number.Tie as tie
 
 abbrev Inv-loop : tie.InvT-loop
-Inv-loop layout rows n number₀ i₀ number i = (i ≤ n) × Judging (layoutOf layout) rows i number
+Inv-loop layout rows n number₀ i₀ number i = (i ≤ n) × Judging (layoutIn layout) rows i number
 
 abbrev μ-loop : tie.MeasureT-loop
 μ-loop layout rows n number₀ i₀ number i = n - i
@@ -19,20 +18,20 @@ abbrev μ-loop : tie.MeasureT-loop
 -- row i is within the rows
 within : (c : tie.In-loop Inv-loop μ-loop)
     → (let a = c .before .before .before .args in
-    layoutOf (a .layout) .rowBytes * (c .before .loop .i + 1) ≤ length (a .rows .now))
+    layoutIn (a .layout) .rowBytes * (c .before .loop .i + 1) ≤ length (a .rows .now))
 within c =
     let a = c .before .before .before in
-    omega (arith, a .pre .1, mul-le-mul-left {m = c .before .loop .i + 1} {n = a .args .n} (layoutOf (a .args .layout) .rowBytes) (omega arith))
+    omega (arith, a .pre .1, mul-le-mul-left {m = c .before .loop .i + 1} {n = a .args .n} (layoutIn (a .args .layout) .rowBytes) (omega arith))
 
 -- the row that is looked at
 row : (c : tie.After-row-of Inv-loop μ-loop)
     → (let l = c .before .before in
     let a = l .before .before .args in
-    Among (layoutOf (a .layout)) (a .rows .now) (l .loop .i) 1 (c .row-of .result .now))
+    Among (layoutIn (a .layout)) (a .rows .now) (l .loop .i) 1 (c .row-of .result .now))
 row c =
     let l = c .before .before in
     let a = l .before .before .args in
-    among-part (l .loop .i) 1 (within (c .before)) (one-part (layoutOf (a .layout) .rowBytes) (l .loop .i) (a .rows .now) (c .row-of .ensures))
+    among-part (l .loop .i) 1 (within (c .before)) (one-part (layoutIn (a .layout) .rowBytes) (l .loop .i) (a .rows .now) (c .row-of .ensures))
 
 row-number-requires : tie.Need-row-number-requires Inv-loop μ-loop
 row-number-requires c κs = (c .before .before .before .before .pre .0, omega (arith, row c .long))

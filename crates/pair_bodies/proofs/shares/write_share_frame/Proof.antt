@@ -10,7 +10,7 @@ use Rattle.linear_model.specs.Trits.{innerShare}
 use Rattle.linear_model.specs.Products.{planeBytes}
 use Rattle.numbers.specs.Number.{atFront}
 use Rattle.pair_frames.specs.Headers.{parametersIn}
-use Rattle.pair_frames.specs.Schemes.{schemeOf}
+use Rattle.pair_frames.specs.Schemes.{schemeIn}
 use Rattle.pair_frames.proofs.Fronts.{lent-fits, lent-front, lent-long, lent-share, filled}
 use Rattle.pair_frames.proofs.Parts.{headed, behind-long, fields-part}
 use Rattle.pair_model.specs.Scheme.{files, concat}
@@ -19,28 +19,29 @@ use Rattle.pair_model.proofs.Internal.Lengths.{length-frame}
 use Rattle.pair_model.specs.Frame.{Parameters, shareKind, header, frame, headerBytes}
 use Rattle.pair_model.specs.Evaluator.{codeOf}
 use Rattle.pair_model.specs.Unit.{shareOf}
+use Rattle.pair_model.specs.StateSlice.{stringRoom, tritsRoom}
 use Rattle.pair_model.proofs.Theorem.ShareLaws.{bytes-code}
 use Rattle.pair_model.proofs.Internal.FieldCopies.{fields-none, fields-more, fields-front}
 use Rattle.pair_bodies.proofs.shares.write_share_frame.Statement.{statement}
 use Rattle.pair_bodies.proofs.shares.write_share_frame.Tie as tie
 
 slice-aggregate-add-bits : tie.Need-slice-aggregate-add-bits
-slice-aggregate-add-bits c = let s = c .before .before .before .before .before .before .before in sym (length-take-le (s .args .sizes .«inner_bytes») (zeros 32) (s .pre .0 .inner))
+slice-aggregate-add-bits c = let s = c .before .before .before .before .before .before .before in sym (length-take-le (s .args .sizes .«inner_bytes») (zeros stringRoom) (s .pre .0 .inner))
 
 array-share-prefix-w : tie.Need-array-share-prefix-w
-array-share-prefix-w c = let s = c .before .before .before .before .before .before .before .before .before in let l = c .before .add-bits in lent-fits (s .args .sizes .«inner_bytes») (zeros 32) (l .last .1 .1 .0) (s .pre .0 .inner) (l .kept .1 .1 .0)
+array-share-prefix-w c = let s = c .before .before .before .before .before .before .before .before .before in let l = c .before .add-bits in lent-fits (s .args .sizes .«inner_bytes») (zeros stringRoom) (l .last .1 .1 .0) (s .pre .0 .inner) (l .kept .1 .1 .0)
 
 slice-aggregate-inner-share : tie.Need-slice-aggregate-inner-share
-slice-aggregate-inner-share c = let s = c .before .before .before .before .before .before .before .before .before .before in let l = c .before .before .add-bits in sym (lent-long (s .args .sizes .«inner_bytes») (zeros 32) (l .last .1 .1 .0) (s .pre .0 .inner) (l .kept .1 .1 .0))
+slice-aggregate-inner-share c = let s = c .before .before .before .before .before .before .before .before .before .before in let l = c .before .before .add-bits in sym (lent-long (s .args .sizes .«inner_bytes») (zeros stringRoom) (l .last .1 .1 .0) (s .pre .0 .inner) (l .kept .1 .1 .0))
 
 slice-aggregate-inner-share-2 : tie.Need-slice-aggregate-inner-share-2
-slice-aggregate-inner-share-2 c = let s = c .before .before .before .before .before .before .before .before .before .before .before in sym (length-take-le (2 * s .args .sizes .«inner_bytes») (zeros 64) (omega (arith, s .pre .0 .inner)))
+slice-aggregate-inner-share-2 c = let s = c .before .before .before .before .before .before .before .before .before .before .before in sym (length-take-le (2 * s .args .sizes .«inner_bytes») (zeros tritsRoom) (omega (arith, s .pre .0 .inner)))
 
 array-share-prefix-inner : tie.Need-array-share-prefix-inner
-array-share-prefix-inner c = let s = c .before .before .before .before .before .before .before .before .before .before .before .before .before .before .before .before .before .before .before in let l = c .before .before .before .before .before .before .before .inner-share in lent-fits (2 * s .args .sizes .«inner_bytes») (zeros 64) (l .last .1 .1 .1 .0) (omega (arith, s .pre .0 .inner)) (l .kept .1 .1 .1 .0)
+array-share-prefix-inner c = let s = c .before .before .before .before .before .before .before .before .before .before .before .before .before .before .before .before .before .before .before in let l = c .before .before .before .before .before .before .before .inner-share in lent-fits (2 * s .args .sizes .«inner_bytes») (zeros tritsRoom) (l .last .1 .1 .1 .0) (omega (arith, s .pre .0 .inner)) (l .kept .1 .1 .1 .0)
 
 slice-aggregate-write-code : tie.Need-slice-aggregate-write-code
-slice-aggregate-write-code c = let s = c .before .before .before .before .before .before .before .before .before .before .before .before .before .before .before .before .before .before .before .before in let l = c .before .before .before .before .before .before .before .before .inner-share in sym (lent-long (2 * s .args .sizes .«inner_bytes») (zeros 64) (l .last .1 .1 .1 .0) (omega (arith, s .pre .0 .inner)) (l .kept .1 .1 .1 .0))
+slice-aggregate-write-code c = let s = c .before .before .before .before .before .before .before .before .before .before .before .before .before .before .before .before .before .before .before .before in let l = c .before .before .before .before .before .before .before .before .inner-share in sym (lent-long (2 * s .args .sizes .«inner_bytes») (zeros tritsRoom) (l .last .1 .1 .1 .0) (omega (arith, s .pre .0 .inner)) (l .kept .1 .1 .1 .0))
 
 -- the frame, by its header, which was copied to the front, and its body, which was written behind
 written : (kind n end : ℕ) (t : Parameters) (d o head body w : List ℕ) → end ≡ headerBytes + n → head ≡ header kind t → length body ≡ n → headerBytes + n ≤ length d → o ≡ pasted 0 head d
@@ -68,7 +69,7 @@ write-code-requires c κs =
     let long = behind n _ _ (s .args .out .now) _ _ _ (c .before .before .before .before .before .before .before .before .before .before .before .before .before .before .before .frame-bytes .ensures) (c .before .before .before .before .before .before .before .header-bytes .ensures) (s .pre .2) (c .before .before .before .before .put .ensures) in (
       s .pre .0,
       s .pre .1,
-      lent-long (2 * s .args .sizes .«inner_bytes») (zeros 64) (l .last .1 .1 .1 .0) (omega (arith, s .pre .0 .inner)) (l .kept .1 .1 .1 .0),
+      lent-long (2 * s .args .sizes .«inner_bytes») (zeros tritsRoom) (l .last .1 .1 .1 .0) (omega (arith, s .pre .0 .inner)) (l .kept .1 .1 .1 .0),
       omega (arith, long),
     )
 
@@ -78,16 +79,16 @@ returns c =
     let s = c .before .before .before .before .before .before .before .before .before .before .before .before .before .before .before .before .before .before .before .before .before .before .before .before in
     let a = s .args in
     let m = a .sizes .«inner_bytes» in
-    let S = schemeOf (a .sizes) in
+    let S = schemeIn (a .sizes) in
     let lent = files (a .file .now) in
     let sum = c .before .before .before .before .before .before .before .before .before .before .before .before .before .before .before .before .add-bits in
     let part = c .before .before .before .before .before .before .before .before .before .before .before .before .inner-share in
     let code = c .before .before .write-code in
-    let front = length-take-le m (zeros 32) (s .pre .0 .inner) in
-    let ŵ = lent-front m (zeros 32) (sum .last .1 .1 .0) (s .pre .0 .inner) (sum .kept .1 .1 .0) ∙ sum .ensures
+    let front = length-take-le m (zeros stringRoom) (s .pre .0 .inner) in
+    let ŵ = lent-front m (zeros stringRoom) (sum .last .1 .1 .0) (s .pre .0 .inner) (sum .kept .1 .1 .0) ∙ sum .ensures
     ∙ ap (λ (k : ℕ). addBits k (a .own-mask .now) (a .other-mask .now)) front in
-    let v = lent-front (2 * m) (zeros 64) (part .last .1 .1 .1 .0) (omega (arith, s .pre .0 .inner)) (part .kept .1 .1 .1 .0)
-    ∙ lent-share m 64 (a .parameters .side) _ (a .r .now) (part .last .1 .1 .1 .0) (omega (arith, s .pre .0 .inner)) (part .ensures)
+    let v = lent-front (2 * m) (zeros tritsRoom) (part .last .1 .1 .1 .0) (omega (arith, s .pre .0 .inner)) (part .kept .1 .1 .1 .0)
+    ∙ lent-share m tritsRoom (a .parameters .side) _ (a .r .now) (part .last .1 .1 .1 .0) (omega (arith, s .pre .0 .inner)) (part .ensures)
     ∙ ap (λ (x : List ℕ). innerShare m (a .parameters .side) x (a .r .now)) ŵ in
     written shareKind (2 * planeBytes (a .sizes .digits)) _ (parametersIn (a .parameters)) (a .out .now) _ _ (codeOf S lent (innerShare m (a .parameters .side) _ (a .r .now))) _
     (c .before .before .before .before .before .before .before .before .before .before .before .before .before .before .before .before .before .before .frame-bytes .ensures) (c .before .before .before .before .before .before .before .before .before .before .header-bytes .ensures) (bytes-code S lent _ .size) (s .pre .2) (c .before .before .before .before .before .before .before .put .ensures)

@@ -4,7 +4,7 @@ use borrow.Author.Needs.{needs}
 use borrow.Author.Tests.{eq-eqb, ne-eqb}
 use Rattle.numbers.specs.Number.{first}
 use Rattle.pair_frames.specs.Headers.{headerOf}
-use Rattle.pair_frames.specs.Schemes.{schemeOf}
+use Rattle.pair_frames.specs.Schemes.{schemeIn}
 use Rattle.pair_model.specs.Frame.{dealKind, maskKind}
 use Rattle.pair_model.specs.Header.{fields, readHeader, headerNumber}
 use Rattle.pair_model.proofs.Internal.Headers.{header-refused}
@@ -14,11 +14,11 @@ use Rattle.pair_conditions.proofs.conditions.frame_number.Tie as tie
 returns : tie.Need-returns
 returns c =
     let e = c .before .before .before .read-header .ensures in
-    c .header-number .ensures ∙ ap headerNumber e ∙ header-refused (schemeOf (c .before .before .before .before .before .args .sizes)) dealKind maskKind _ (sym e ∙ ap headerOf (c .before .enum-told .given .1)) _
+    c .header-number .ensures ∙ ap headerNumber e ∙ header-refused (schemeIn (c .before .before .before .before .before .args .sizes)) dealKind maskKind _ (sym e ∙ ap headerOf (c .before .enum-told .given .1)) _
 
 -- the fields that were read
 read : (c : tie.After-h)
-    → readHeader (schemeOf (c .before .before .before .before .args .sizes)) dealKind maskKind (c .before .before .before .before .args .f .now)
+    → readHeader (schemeIn (c .before .before .before .before .args .sizes)) dealKind maskKind (c .before .before .before .before .args .f .now)
     ≡ fields (c .h .given .0 .0) (c .h .given .0 .1 .0) (c .h .given .0 .1 .1 .0) (c .h .given .0 .1 .1 .1 .0)
 read c = sym (c .before .before .read-header .ensures) ∙ ap headerOf (c .h .given .1)
 

@@ -3,7 +3,7 @@ use mathlib.Core.Path.{refl, sym, _∙_}
 use native.Mathlib.Omega.{arith}
 use borrow.Author.Needs.{needs}
 use borrow.Author.Tests.{lt-ltb, le-ltb, eq-eqb, ne-eqb}
-use Rattle.pair_frames.specs.Schemes.{schemeOf}
+use Rattle.pair_frames.specs.Schemes.{schemeIn}
 use Rattle.pair_model.specs.Unit.{leastOutput}
 use Rattle.pair_model.proofs.Internal.Contents.{lengths-number}
 use Rattle.pair_conditions.proofs.conditions.length_number.Statement.{statement}
@@ -12,13 +12,13 @@ use Rattle.pair_conditions.proofs.conditions.length_number.Tie as tie
 returns : tie.Need-returns
 returns c =
     let a = c .before .before .before .before .args in
-    let S = schemeOf (a .sizes) in
+    let S = schemeIn (a .sizes) in
     rw (lengths-number S refl, lt-ltb (a .room) (leastOutput S) (omega (arith, c .if1 .taken, c .before .frame-bytes .ensures)))
 
 returns-2 : tie.Need-returns-2
 returns-2 c =
     let a = c .before .before .before .before .before .before .before .before .args in
-    let S = schemeOf (a .sizes) in
+    let S = schemeIn (a .sizes) in
     rw (
       lengths-number S refl,
       le-ltb (a .room) (leastOutput S) (omega (arith, c .before .before .before .before .if1 .left, c .before .before .before .before .before .frame-bytes .ensures)),
@@ -29,7 +29,7 @@ returns-2 c =
 returns-3 : tie.Need-returns-3
 returns-3 c =
     let a = c .before .before .before .before .before .before .before .before .args in
-    let S = schemeOf (a .sizes) in
+    let S = schemeIn (a .sizes) in
     rw (
       lengths-number S refl,
       le-ltb (a .room) (leastOutput S) (omega (arith, c .before .before .before .before .if1 .left, c .before .before .before .before .before .frame-bytes .ensures)),
@@ -40,7 +40,7 @@ returns-3 c =
 returns-4 : tie.Need-returns-4
 returns-4 c =
     let a = c .before .before .before .before .before .before .args in
-    let S = schemeOf (a .sizes) in
+    let S = schemeIn (a .sizes) in
     rw (
       lengths-number S refl,
       le-ltb (a .room) (leastOutput S) (omega (arith, c .before .before .if1 .left, c .before .before .before .frame-bytes .ensures)),

@@ -2,7 +2,7 @@
 use mathlib.Core.Path.{sym, _∙_}
 use borrow.Author.Needs.{needs}
 use Rattle.pair_frames.specs.Headers.{parametersIn}
-use Rattle.pair_frames.specs.Schemes.{schemeOf}
+use Rattle.pair_frames.specs.Schemes.{schemeIn}
 use Rattle.pair_model.specs.Scheme.{files}
 use Rattle.pair_model.proofs.Internal.StepNumbers.{number-of-lengths, number-of-headers, number-of-content, rows-long, frame-long}
 use Rattle.pair_conditions.proofs.conditions.step_number.Statement.{statement}
@@ -11,20 +11,20 @@ use Rattle.pair_conditions.proofs.conditions.step_number.Tie as tie
 returns : tie.Need-returns
 returns c =
     let n = c .before .length-number in
-    n .ensures ∙ number-of-lengths (schemeOf (c .before .before .before .before .args .sizes)) _ _ _ _ _ (λ e. c .if1 .taken (n .ensures ∙ e))
+    n .ensures ∙ number-of-lengths (schemeIn (c .before .before .before .before .args .sizes)) _ _ _ _ _ (λ e. c .if1 .taken (n .ensures ∙ e))
 
 returns-2 : tie.Need-returns-2
 returns-2 c =
     let n = c .before .frame-number in
     let l = c .before .before in
-    n .ensures ∙ number-of-headers (schemeOf (c .before .before .before .before .before .before .args .sizes)) _ _ _ _ _ (sym (l .before .length-number .ensures) ∙ l .if1 .left) (λ e. c .if2 .taken (n .ensures ∙ e))
+    n .ensures ∙ number-of-headers (schemeIn (c .before .before .before .before .before .before .args .sizes)) _ _ _ _ _ (sym (l .before .length-number .ensures) ∙ l .if1 .left) (λ e. c .if2 .taken (n .ensures ∙ e))
 
 content-number-requires : tie.Need-content-number-requires
 content-number-requires c κs =
     let l = c .before .before in
     let s = l .before .before .before .before in
     let a = s .args in
-    let S = schemeOf (a .sizes) in
+    let S = schemeIn (a .sizes) in
     let lent = files (a .file .now) in (
       s .pre,
       frame-long S (parametersIn (a .parameters)) (a .stage) (a .f .now) lent (a .room) (sym (c .before .frame-number .ensures) ∙ c .if2 .left),
@@ -36,7 +36,7 @@ returns-3 c =
     let g = c .before in
     let l = g .before .before in
     c .content-number .ensures
-    ∙ number-of-content (schemeOf (c .before .before .before .before .before .before .before .args .sizes)) _ _ _ _ _ (sym (l .before .length-number .ensures) ∙ l .if1 .left) (sym (g .before .frame-number .ensures) ∙ g .if2 .left)
+    ∙ number-of-content (schemeIn (c .before .before .before .before .before .before .before .args .sizes)) _ _ _ _ _ (sym (l .before .length-number .ensures) ∙ l .if1 .left) (sym (g .before .frame-number .ensures) ∙ g .if2 .left)
 
 pub step-number-spec : {M : Type 1} → statement M
 step-number-spec =

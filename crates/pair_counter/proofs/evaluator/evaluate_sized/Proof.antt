@@ -1,15 +1,14 @@
 -- `pair_counter::evaluator::evaluate_sized` meets its contract: the lengths decide first, and then the file's number.
-use mathlib.Core.Path.{_≡_, refl, sym, ap, _∙_}
+use mathlib.Core.Path.{refl, sym, ap, _∙_}
 use mathlib.Core.List.{List}
 use Prim.Native.Nat.{ℕ, _*_}
 use native.Mathlib.Omega.{arith}
 use borrow.Author.Needs.{needs}
-use lib.ListN.{length, take}
 use lib.Seq.{length-take-le}
 use Rattle.numbers.specs.Number.{atFront, output}
 use Rattle.numbers.proofs.Numbers.{is-equal}
 use Rattle.numbers.proofs.Outputs.{output-refused, output-done}
-use Rattle.pair_frames.specs.Schemes.{schemeOf}
+use Rattle.pair_frames.specs.Schemes.{schemeIn}
 use Rattle.pair_model.specs.Scheme.{files}
 use Rattle.pair_model.specs.Evaluator.{codeOf, code}
 use Rattle.pair_model.proofs.Theorem.StepLaws.{fit-length}
@@ -19,20 +18,20 @@ use Rattle.pair_counter.proofs.evaluator.evaluate_sized.Tie as tie
 
 returns : tie.Need-returns
 unfolding output
-returns c = (key-length (schemeOf (c .before .before .before .before .before .before .before .args .sizes)) _ _ _ _ (c .if1 .taken), refl)
+returns c = (key-length (schemeIn (c .before .before .before .before .before .before .before .args .sizes)) _ _ _ _ (c .if1 .taken), refl)
 
 returns-2 : tie.Need-returns-2
 unfolding output
-returns-2 c = (label-length (schemeOf (c .before .before .before .before .before .before .before .before .before .args .sizes)) _ _ _ _ (c .before .before .if1 .left) (c .if2 .taken), refl)
+returns-2 c = (label-length (schemeIn (c .before .before .before .before .before .before .before .before .before .args .sizes)) _ _ _ _ (c .before .before .if1 .left) (c .if2 .taken), refl)
 
 returns-3 : tie.Need-returns-3
 unfolding output
-returns-3 c = (output-short (schemeOf (c .before .before .before .before .before .before .before .before .before .before .before .args .sizes)) _ _ _ _ (c .before .before .before .before .if1 .left) (c .before .before .if2 .left) (c .if3 .taken), refl)
+returns-3 c = (output-short (schemeIn (c .before .before .before .before .before .before .before .before .before .before .before .args .sizes)) _ _ _ _ (c .before .before .before .before .if1 .left) (c .before .before .if2 .left) (c .if3 .taken), refl)
 
 returns-4 : tie.Need-returns-4
 returns-4 c =
     let a = c .before .before .before .before .before .before .before .before .before .before .before .before .before .args in
-    (c .before .file-number .ensures ∙ rows-decide (schemeOf (a .sizes)) _ _ _ _ (c .before .before .before .before .before .before .if1 .left) refl tt (c .before .before .before .before .if2 .left) (c .before .before .if3 .left), output-refused _ _ _ (c .if4 .taken))
+    (c .before .file-number .ensures ∙ rows-decide (schemeIn (a .sizes)) _ _ _ _ (c .before .before .before .before .before .before .if1 .left) refl tt (c .before .before .before .before .if2 .left) (c .before .before .if3 .left), output-refused _ _ _ (c .if4 .taken))
 
 slice-aggregate-write-code : tie.Need-slice-aggregate-write-code
 slice-aggregate-write-code c =
@@ -44,7 +43,7 @@ write-code-requires : tie.Need-write-code-requires
 write-code-requires c κs =
     let s = c .before .before .before .before .before .before .before .before .before .before .before .before .before .before .before .before in
     let v = c .before .before .inner-vector in
-    let S = schemeOf (s .args .sizes) in (
+    let S = schemeIn (s .args .sizes) in (
       s .pre,
       is-equal _ _ (fit-length (S .rowsReading) (files (s .args .file .now)) (sym (c .before .before .before .before .file-number .ensures) ∙ c .before .before .before .if4 .left)),
       length-take-le (2 * s .args .sizes .«inner_bytes») (v .result) (omega (arith, v .ok .1 .0 .1, s .pre .inner)),
@@ -55,7 +54,7 @@ returns-5 : tie.Need-returns-5
 unfolding code
 returns-5 c =
     let a = c .before .before .before .before .before .before .before .before .before .before .before .before .before .before .before .before .before .before .before .args in
-    let S = schemeOf (a .sizes) in
+    let S = schemeIn (a .sizes) in
     let lent = files (a .file .now) in
     let z = sym (c .before .before .before .before .before .before .before .file-number .ensures) ∙ c .before .before .before .before .before .before .if4 .left in (
       sym z ∙ rows-decide S _ _ _ _ (c .before .before .before .before .before .before .before .before .before .before .before .before .if1 .left) refl tt (c .before .before .before .before .before .before .before .before .before .before .if2 .left) (c .before .before .before .before .before .before .before .before .if3 .left),

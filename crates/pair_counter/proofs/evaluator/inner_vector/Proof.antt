@@ -6,6 +6,7 @@ use native.Mathlib.Omega.{arith}
 use borrow.Author.Needs.{needs}
 use lib.ListN.{length, take, drop, length-append, replicate-append-replicate}
 use lib.Seq.{take-at, drop-at, length-take-le}
+use Rattle.pair_model.specs.StateSlice.{tritsRoom}
 use Rattle.linear_model.specs.Bits.{zeros}
 use Rattle.linear_model.specs.Products.{circulant, circulantProduct}
 use Rattle.linear_model.proofs.Linearity.{bytes-product}
@@ -25,7 +26,7 @@ low-plane m room w l h =
     ∙ take-at (w ++ zeros m) (zeros (room - 2 * m)) (2 * m) (length-append w (zeros m) ∙ omega (arith, length-zeros m))
 
 slice-aggregate-circulant-product : tie.Need-slice-aggregate-circulant-product
-slice-aggregate-circulant-product c = let s = c .before .before .before in sym (length-take-le (s .args .sizes .«inner_bytes») (zeros 64) (omega (arith, s .pre .inner)))
+slice-aggregate-circulant-product c = let s = c .before .before .before in sym (length-take-le (s .args .sizes .«inner_bytes») (zeros tritsRoom) (omega (arith, s .pre .inner)))
 
 returns : tie.Need-returns
 returns c =
@@ -33,11 +34,11 @@ returns c =
     let m = s .args .sizes .«inner_bytes» in
     let key = s .args .key .now in
     let label = s .args .label .now in
-    let h : 2 * m ≤ 64 = omega (arith, s .pre .inner) in
-    let is = c .before .circulant-product .ensures ∙ ap (λ (n : ℕ). circulantProduct n key label) (length-take-le m (zeros 64) (omega arith)) in
+    let h : 2 * m ≤ tritsRoom = omega (arith, s .pre .inner) in
+    let is = c .before .circulant-product .ensures ∙ ap (λ (n : ℕ). circulantProduct n key label) (length-take-le m (zeros tritsRoom) (omega arith)) in
     let b = bytes-product m m (circulant m key) label in
-    ap (λ (w : List ℕ). take (2 * m) (w ++ drop m (zeros 64))) is
-    ∙ low-plane m 64 (circulantProduct m key label) (b .size) h
+    ap (λ (w : List ℕ). take (2 * m) (w ++ drop m (zeros tritsRoom))) is
+    ∙ low-plane m tritsRoom (circulantProduct m key label) (b .size) h
     ∙ bits-as-trits m (circulantProduct m key label) b
 
 pub inner-vector-spec : {M : Type 1} → statement M

@@ -1,13 +1,13 @@
 -- `pair_counter::join::add_shares` meets its contract: the bodies of two share frames are added to the front.
 use mathlib.Core.Path.{sym, _∙_}
-use mathlib.Core.List.{List, _++_}
-use Prim.Native.Nat.{ℕ, _*_, _/_}
+use mathlib.Core.List.{_++_}
+use Prim.Native.Nat.{_*_, _/_}
 use native.Mathlib.Omega.{arith}
 use borrow.Author.Needs.{needs}
 use lib.ListN.{length, take, drop}
 use lib.Seq.{length-take-le}
 use Rattle.linear_model.specs.Trits.{addTrits}
-use Rattle.pair_frames.specs.Schemes.{schemeOf}
+use Rattle.pair_frames.specs.Schemes.{schemeIn}
 use Rattle.pair_model.specs.Frame.{codeBytes}
 use Rattle.pair_model.proofs.Internal.Joins.{join-written}
 use Rattle.pair_counter.proofs.join.add_shares.Statement.{statement}
@@ -22,12 +22,12 @@ share-of-requires-2 c κs = let s = c .before .before .before .before in (s .pre
 slice-aggregate-add-trits : tie.Need-slice-aggregate-add-trits
 slice-aggregate-add-trits c =
     let s = c .before .before .before .before .before .before .before in
-    sym (length-take-le (codeBytes (schemeOf (s .args .sizes))) (s .args .out .now) (s .pre .3))
+    sym (length-take-le (codeBytes (schemeIn (s .args .sizes))) (s .args .out .now) (s .pre .3))
 
 returns : tie.Need-returns
 returns c =
     let s = c .before .before .before .before .before .before .before .before .before .before in
-    let S = schemeOf (s .args .sizes) in
+    let S = schemeIn (s .args .sizes) in
     let front = take (codeBytes S) (s .args .out .now) in
     let shares = c .before .before .before .before .before in
     join-written S (s .args .first .now) (s .args .second .now) (s .args .out .now) _ (s .pre .1) (s .pre .2) (s .pre .3)

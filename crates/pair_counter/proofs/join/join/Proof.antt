@@ -1,25 +1,48 @@
--- `pair_counter::join::join` meets its contract: what is accepted has two share frames and room for the code.
-use mathlib.Core.Path.{sym, _∙_}
-use borrow.Author.Needs.{needs}
-use borrow.Author.Tests.{ne-eqb}
-use Rattle.numbers.specs.Number.{output}
-use Rattle.pair_frames.proofs.Bases.{base-fits}
-use Rattle.pair_model.specs.Base.{base}
-use Rattle.pair_model.proofs.Internal.Joins.{join-fits}
+-- `pair_counter::join::join` meets its contract, set by set.
+use mathlib.Core.Path.{refl}
+use mathlib.Core.List.{List}
+use Prim.Native.Nat.{ℕ}
+use Rattle.numbers.specs.Number.{Condition}
+use Rattle.numbers.proofs.Sets.{called-in, called-none}
+use Rattle.pair_frames.proofs.Bases.{fits-1, fits-2, fits-3}
+use Rattle.pair_model.specs.Base.{schemeOf}
+use Rattle.pair_model.specs.Join.{joinConditions, joined}
 use Rattle.pair_counter.proofs.join.join.Statement.{statement}
 use Rattle.pair_counter.proofs.join.join.Tie as tie
 
-returns : tie.Need-returns
-unfolding output
-returns c = (c .before .join-number .ensures, simp (ne-eqb _ _ (c .if1 .taken)))
+-- the conditions and the code in set k
+abbrev conditions : (f g : List ℕ) → ℕ → ℕ → List Condition
+conditions f g n k = joinConditions (schemeOf k) f g n
 
-add-shares-requires : tie.Need-add-shares-requires
-add-shares-requires c κs =
-    let f = join-fits base _ _ _ (sym (c .before .before .join-number .ensures) ∙ c .before .if1 .left) in
-    (base-fits, f .first-length, f .second-length, f .room)
+abbrev joinedIn : (f g : List ℕ) → ℕ → List ℕ
+joinedIn f g k = joined (schemeOf k) f g
+
+returns : tie.Need-returns
+returns c =
+    let a = c .before .before .before .before .before .before .before .before .args in
+    called-in (c .before .before .before .before .match .keys1) refl (conditions (a .first .now) (a .second .now) _)
+    (joinedIn (a .first .now) (a .second .now)) (a .out .now) (c .before .before .join-sized .ensures)
 
 returns-2 : tie.Need-returns-2
-returns-2 c = (sym (c .before .before .before .before .if1 .left) ∙ c .before .before .before .before .before .join-number .ensures, c .before .before .add-shares .ensures)
+returns-2 c =
+    let a = c .before .before .before .before .before .before .before .before .args in
+    called-in (c .before .before .before .before .match .keys2) refl (conditions (a .first .now) (a .second .now) _)
+    (joinedIn (a .first .now) (a .second .now)) (a .out .now) (c .before .before .join-sized2 .ensures)
+
+returns-3 : tie.Need-returns-3
+returns-3 c =
+    let a = c .before .before .before .before .before .before .before .before .args in
+    called-in (c .before .before .before .before .match .keys3) refl (conditions (a .first .now) (a .second .now) _)
+    (joinedIn (a .first .now) (a .second .now)) (a .out .now) (c .before .before .join-sized3 .ensures)
+
+returns-4 : tie.Need-returns-4
+returns-4 c =
+    let a = c .before .before .before .before .args in
+    let none = c .match .rest in
+    called-none (a .set) _ _ (a .out .now) (none .0 .0 .1) (none .0 .1) (none .1)
 
 pub join-spec : {M : Type 1} → statement M
-join-spec = tie.close (tie.spec (λ c κs. base-fits) returns add-shares-requires (λ c. search needs) returns-2)
+join-spec =
+    tie.close
+    (tie.spec (λ c κs. fits-1) (λ c κs. fits-2) (λ c κs. fits-3) (λ c. c .before .out .given) returns (λ c. c .before .out2 .given) returns-2
+    (λ c. c .before .out3 .given) returns-3 returns-4)

@@ -8,7 +8,7 @@ use borrow.Author.Tests.{le-ltb, eq-eqb, ne-eqb}
 use lib.ListN.{length}
 use Rattle.numbers.specs.Number.{first}
 use Rattle.pair_frames.specs.Headers.{headerOf}
-use Rattle.pair_frames.specs.Schemes.{schemeOf}
+use Rattle.pair_frames.specs.Schemes.{schemeIn}
 use Rattle.pair_model.specs.Scheme.{Scheme}
 use Rattle.pair_model.specs.Frame.{shareKind, codeBytes, frameBytes}
 use Rattle.pair_model.specs.Header.{fields, headerNumber}
@@ -20,8 +20,8 @@ use Rattle.pair_counter.proofs.join.join_number.Tie as tie
 
 -- the lower of both refusals
 lowest : (c : tie.After-lower)
-    → c .lower .result ≡ lowerOf (headerNumber (shareRead (schemeOf (c .before .before .before .before .before .before .before .before .before .args .sizes)) (c .before .before .before .before .before .before .before .before .before .args .f .now)))
-    (headerNumber (shareRead (schemeOf (c .before .before .before .before .before .before .before .before .before .args .sizes)) (c .before .before .before .before .before .before .before .before .before .args .g .now)))
+    → c .lower .result ≡ lowerOf (headerNumber (shareRead (schemeIn (c .before .before .before .before .before .before .before .before .before .args .sizes)) (c .before .before .before .before .before .before .before .before .before .args .f .now)))
+    (headerNumber (shareRead (schemeIn (c .before .before .before .before .before .before .before .before .before .args .sizes)) (c .before .before .before .before .before .before .before .before .before .args .g .now)))
 lowest c =
     let h = c .before .before in
     let r = h .before .before in
@@ -30,23 +30,23 @@ lowest c =
 
 -- the fields of the first frame, and of the second, where both have been read
 first-read : (c : tie.After-p)
-    → shareRead (schemeOf (c .before .before .before .before .before .before .before .before .before .before .before .args .sizes)) (c .before .before .before .before .before .before .before .before .before .before .before .args .f .now)
+    → shareRead (schemeIn (c .before .before .before .before .before .before .before .before .before .before .before .args .sizes)) (c .before .before .before .before .before .before .before .before .before .before .before .args .f .now)
     ≡ fields (c .p .given .0 .0) (c .p .given .0 .1 .0) (c .p .given .0 .1 .1 .0) (c .p .given .0 .1 .1 .1 .0)
 first-read c = sym (c .before .before .before .before .before .before .read-header .ensures) ∙ ap headerOf (c .p .given .1)
 
 second-read : (c : tie.After-q)
-    → shareRead (schemeOf (c .before .before .before .before .before .before .before .before .before .before .before .before .before .before .args .sizes)) (c .before .before .before .before .before .before .before .before .before .before .before .before .before .before .args .g .now)
+    → shareRead (schemeIn (c .before .before .before .before .before .before .before .before .before .before .before .before .before .before .args .sizes)) (c .before .before .before .before .before .before .before .before .before .before .before .before .before .before .args .g .now)
     ≡ fields (c .q .given .0 .0) (c .q .given .0 .1 .0) (c .q .given .0 .1 .1 .0) (c .q .given .0 .1 .1 .1 .0)
 second-read c = sym (c .before .before .before .before .before .before .before .before .read-header2 .ensures) ∙ ap headerOf (c .q .given .1)
 
 returns : tie.Need-returns
-returns c = join-room (schemeOf (c .before .before .before .before .args .sizes)) _ _ _ (c .if1 .taken)
+returns c = join-room (schemeIn (c .before .before .before .before .args .sizes)) _ _ _ (c .if1 .taken)
 
 returns-2 : tie.Need-returns-2
 returns-2 c =
     let l = c .before .before in
     let h = l .before .before .before .before in
-    let S = schemeOf (h .before .before .before .before .before .args .sizes) in
+    let S = schemeIn (h .before .before .before .before .before .args .sizes) in
     lowest l
     ∙ join-refused S _ _ _ (h .before .if1 .left)
     (λ w v. not-whole S shareKind shareKind _ (sym (h .read-header .ensures) ∙ ap headerOf (c .enum-told .given .1)) w)
@@ -55,12 +55,12 @@ returns-3 : tie.Need-returns-3
 returns-3 c =
     let l = c .before .before .before .before .before in
     let h = l .before .before .before in
-    let S = schemeOf (h .before .before .before .before .before .before .args .sizes) in
+    let S = schemeIn (h .before .before .before .before .before .before .args .sizes) in
     lowest l
     ∙ join-refused S _ _ _ (h .before .before .if1 .left)
     (λ w v. not-whole S shareKind shareKind _ (sym (h .read-header2 .ensures) ∙ ap headerOf (c .enum-told2 .given .1)) v)
 
-room : (c : tie.After-p) → codeBytes (schemeOf (c .before .before .before .before .before .before .before .before .before .before .before .args .sizes)) ≤ c .before .before .before .before .before .before .before .before .before .before .before .args .room
+room : (c : tie.After-p) → codeBytes (schemeIn (c .before .before .before .before .before .before .before .before .before .before .before .args .sizes)) ≤ c .before .before .before .before .before .before .before .before .before .before .before .args .room
 room c = c .before .before .before .before .before .before .before .if1 .left
 
 returns-4 : tie.Need-returns-4
@@ -94,13 +94,13 @@ share-number-requires : tie.Need-share-number-requires
 share-number-requires c κs =
     let p = c .before .before .before .before .before .before .before in
     let s = p .before .before .before .before .before .before .before .before .before .before .before in
-    (s .pre, long (schemeOf (s .args .sizes)) (s .args .f .now) (first-read p))
+    (s .pre, long (schemeIn (s .args .sizes)) (s .args .f .now) (first-read p))
 
 share-number-requires-2 : tie.Need-share-number-requires-2
 share-number-requires-2 c κs =
     let q = c .before .before .before .before .before in
     let s = q .before .before .before .before .before .before .before .before .before .before .before .before .before .before in
-    (s .pre, long (schemeOf (s .args .sizes)) (s .args .g .now) (second-read q))
+    (s .pre, long (schemeIn (s .args .sizes)) (s .args .g .now) (second-read q))
 
 returns-7 : tie.Need-returns-7
 unfolding first joinConditions
@@ -110,7 +110,7 @@ returns-7 c =
     let q = i .before .before in
     let p = q .before .before .before in
     let a = p .before .before .before .before .before .before .before .before .before .before .before .args in
-    let S = schemeOf (a .sizes) in
+    let S = schemeIn (a .sizes) in
     c .lower2 .ensures ∙ (λ k. lowerOf (c .before .before .share-number .ensures k) (c .before .share-number2 .ensures k))
     ∙ share-numbers S (a .f .now) (a .g .now) (long S _ (first-read p)) (long S _ (second-read q))
     ∙ simp (le-ltb _ _ (room p), first-read p, second-read q, eq-eqb _ _ (i .if2 .left), eq-eqb _ _ (j .before .if3 .left), eq-eqb _ _ (j .if4 .left))

@@ -10,7 +10,7 @@ use lib.Seq.{length-take-le}
 use Rattle.linear_model.specs.Trits.{fitTrits, zeroTrits}
 use Rattle.linear_model.specs.Products.{planeBytes}
 use Rattle.numbers.specs.Number.{first}
-use Rattle.pair_frames.specs.Schemes.{schemeOf}
+use Rattle.pair_frames.specs.Schemes.{schemeIn}
 use Rattle.pair_model.specs.Frame.{shareKind, codeBytes, frameBytes, headerBytes}
 use Rattle.pair_model.specs.Scheme.{Scheme}
 use Rattle.pair_model.proofs.Internal.Joins.{share-fit, share-clear}
@@ -23,19 +23,19 @@ long S f v l e = ap length e ∙ length-take-le (codeBytes S) (drop headerBytes 
 
 -- both tests, as those of the frame's share
 unfit : (c : tie.After-spare-bits-clear) → let a = c .before .before .before .before .args in
-    not (fitTrits (planeBytes (a .sizes .digits)) (a .sizes .digits) (take (codeBytes (schemeOf (a .sizes))) (drop headerBytes (a .f .now)))) ≡ not (c .before .trits-fit .result)
+    not (fitTrits (planeBytes (a .sizes .digits)) (a .sizes .digits) (take (codeBytes (schemeIn (a .sizes))) (drop headerBytes (a .f .now)))) ≡ not (c .before .trits-fit .result)
 unfit c =
     let s = c .before .before .before .before in
-    let S = schemeOf (s .args .sizes) in
+    let S = schemeIn (s .args .sizes) in
     let e = c .before .before .share-of .ensures in
     ap (λ (v : List ℕ). not (fitTrits (planeBytes (S .digits)) (S .digits) v)) (sym e)
     ∙ share-fit S _ (long S (s .args .f .now) _ (s .pre .1) e) (c .before .trits-fit .ensures)
 
 spare : (c : tie.After-spare-bits-clear) → let a = c .before .before .before .before .args in
-    not (zeroTrits (planeBytes (a .sizes .digits)) (a .sizes .digits) (take (codeBytes (schemeOf (a .sizes))) (drop headerBytes (a .f .now)))) ≡ not (c .spare-bits-clear .result)
+    not (zeroTrits (planeBytes (a .sizes .digits)) (a .sizes .digits) (take (codeBytes (schemeIn (a .sizes))) (drop headerBytes (a .f .now)))) ≡ not (c .spare-bits-clear .result)
 spare c =
     let s = c .before .before .before .before in
-    let S = schemeOf (s .args .sizes) in
+    let S = schemeIn (s .args .sizes) in
     let e = c .before .before .share-of .ensures in
     ap (λ (v : List ℕ). not (zeroTrits (planeBytes (S .digits)) (S .digits) v)) (sym e)
     ∙ share-clear S _ (long S (s .args .f .now) _ (s .pre .1) e) (c .spare-bits-clear .ensures)

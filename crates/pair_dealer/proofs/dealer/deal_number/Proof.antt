@@ -1,5 +1,5 @@
 -- `pair_dealer::dealer::deal_number` meets its contract: each return rewrites with the tests that led there.
-use mathlib.Core.Path.{_≡_, sym, _∙_}
+use mathlib.Core.Path.{_≡_}
 use Prim.Native.Nat.{_≤_}
 use native.Mathlib.Omega.{arith}
 use borrow.Author.Needs.{needs}
@@ -8,7 +8,7 @@ use lib.ListN.{length}
 use Rattle.numbers.specs.Number.{first, merge}
 use Rattle.pair_model.specs.Tape.{tapeBytes}
 use Rattle.pair_model.specs.Dealer.{dealtBytes, dealConditions}
-use Rattle.pair_frames.specs.Schemes.{schemeOf}
+use Rattle.pair_frames.specs.Schemes.{schemeIn}
 use Rattle.pair_deals.proofs.Parts.{fit-part}
 use Rattle.pair_dealer.proofs.dealer.deal_number.Statement.{statement}
 use Rattle.pair_dealer.proofs.dealer.deal_number.Tie as tie
@@ -17,14 +17,14 @@ returns : tie.Need-returns
 unfolding first dealConditions
 returns c =
     let a = c .before .before .args in
-    let S = schemeOf (a .sizes) in
+    let S = schemeIn (a .sizes) in
     simp (ne-eqb (length (a .tape .now)) (tapeBytes S) (λ e. c .if1 .taken (omega arith)))
 
 returns-2 : tie.Need-returns-2
 unfolding first dealConditions
 returns-2 c =
     let a = c .before .before .before .args in
-    let S = schemeOf (a .sizes) in
+    let S = schemeIn (a .sizes) in
     simp (eq-eqb (length (a .tape .now)) (tapeBytes S) (omega arith), lt-ltb (a .room) (dealtBytes S) (omega arith))
 
 returns-3 : tie.Need-returns-3
@@ -32,7 +32,7 @@ unfolding first merge dealConditions
 returns-3 c =
     let r = c .before .before .before in
     let a = r .before .before .before .args in
-    let S = schemeOf (a .sizes) in
+    let S = schemeIn (a .sizes) in
     let l : length (a .tape .now) ≡ tapeBytes S = omega arith in
     let h : dealtBytes S ≤ a .room = omega arith in
     simp (eq-eqb _ _ l, le-ltb _ _ h, fit-part (a .sizes) (a .tape .now) l (c .before .trits-fit .ensures), c .if3 .taken)
@@ -42,7 +42,7 @@ unfolding first merge dealConditions
 returns-4 c =
     let r = c .before .before .before in
     let a = r .before .before .before .args in
-    let S = schemeOf (a .sizes) in
+    let S = schemeIn (a .sizes) in
     let l : length (a .tape .now) ≡ tapeBytes S = omega arith in
     let h : dealtBytes S ≤ a .room = omega arith in
     simp (eq-eqb _ _ l, le-ltb _ _ h, fit-part (a .sizes) (a .tape .now) l (c .before .trits-fit .ensures), c .if3 .left)

@@ -3,7 +3,7 @@ use mathlib.Core.Path.{sym, _∙_}
 use borrow.Author.Needs.{needs}
 use borrow.Author.Tests.{ne-eqb}
 use Rattle.numbers.specs.Number.{output}
-use Rattle.pair_frames.specs.Schemes.{schemeOf}
+use Rattle.pair_frames.specs.Schemes.{schemeIn}
 use Rattle.pair_model.proofs.Internal.Deals.{deal-fits}
 use Rattle.pair_dealer.proofs.dealer.deal_sized.Statement.{statement}
 use Rattle.pair_dealer.proofs.dealer.deal_sized.Tie as tie
@@ -16,7 +16,7 @@ write-deal-requires : tie.Need-write-deal-requires
 write-deal-requires c κs =
     let n = c .before .before in
     let s = n .before .before .before in
-    let f = deal-fits (schemeOf (s .args .sizes)) _ (s .args .tape .now) _ (sym (n .deal-number .ensures) ∙ c .before .if1 .left) in
+    let f = deal-fits (schemeIn (s .args .sizes)) _ (s .args .tape .now) _ (sym (n .deal-number .ensures) ∙ c .before .if1 .left) in
     (s .pre, f .tape-length, f .room)
 
 returns-2 : tie.Need-returns-2

@@ -5,6 +5,7 @@ use mathlib.Core.List.{List}
 use native.Mathlib.Omega.{arith}
 use lib.ListN.{length, take, drop}
 use lib.Seq.{take-at, length-take-le}
+use Rattle.pair_model.specs.StateSlice.{stringRoom}
 use Rattle.linear_model.specs.Bits.{zeros, addBits}
 use Rattle.linear_model.specs.Products.{circulantProduct}
 use Rattle.pair_deals.proofs.Parts.{front-long, front-part, z-is}
@@ -15,30 +16,30 @@ slice-aggregate-add-bits : tie.Need-slice-aggregate-add-bits
 slice-aggregate-add-bits c = let s = c .before .before .before in sym (length-take-le (s .args .sizes .«key_bytes») (s .args .tape .now) (omega (arith, s .pre .1)))
 
 slice-aggregate-add-bits-2 : tie.Need-slice-aggregate-add-bits-2
-slice-aggregate-add-bits-2 c = let s = c .before .before .before .before .before in sym (length-take-le (s .args .sizes .«key_bytes») (zeros 32) (s .pre .0 .key))
+slice-aggregate-add-bits-2 c = let s = c .before .before .before .before .before in sym (length-take-le (s .args .sizes .«key_bytes») (zeros stringRoom) (s .pre .0 .key))
 
 slice-aggregate-add-bits-3 : tie.Need-slice-aggregate-add-bits-3
-slice-aggregate-add-bits-3 c = let s = c .before .before .before .before .before .before .before .before .before .before in sym (length-take-le (s .args .sizes .«key_bytes») (zeros 32) (s .pre .0 .key))
+slice-aggregate-add-bits-3 c = let s = c .before .before .before .before .before .before .before .before .before .before in sym (length-take-le (s .args .sizes .«key_bytes») (zeros stringRoom) (s .pre .0 .key))
 
 array-share-prefix-key-mask : tie.Need-array-share-prefix-key-mask
 array-share-prefix-key-mask c =
     let s = c .before .before .before .before .before .before .before .before .before .before .before .before in
-    front-long _ (c .before .before .before .before .before .before .add-bits .last .1 .1 .0) (drop (s .args .sizes .«key_bytes») (zeros 32)) (c .before .before .before .before .before .before .add-bits .kept .1 .1 .0 ∙ length-take-le (s .args .sizes .«key_bytes») (zeros 32) (s .pre .0 .key))
+    front-long _ (c .before .before .before .before .before .before .add-bits .last .1 .1 .0) (drop (s .args .sizes .«key_bytes») (zeros stringRoom)) (c .before .before .before .before .before .before .add-bits .kept .1 .1 .0 ∙ length-take-le (s .args .sizes .«key_bytes») (zeros stringRoom) (s .pre .0 .key))
 
 slice-aggregate-circulant-product : tie.Need-slice-aggregate-circulant-product
 slice-aggregate-circulant-product c =
     let s = c .before .before .before .before .before .before .before .before .before .before .before .before .before in
-    front-part _ (c .before .before .before .before .before .before .before .add-bits .last .1 .1 .0) (drop (s .args .sizes .«key_bytes») (zeros 32)) (c .before .before .before .before .before .before .before .add-bits .kept .1 .1 .0 ∙ length-take-le (s .args .sizes .«key_bytes») (zeros 32) (s .pre .0 .key))
+    front-part _ (c .before .before .before .before .before .before .before .add-bits .last .1 .1 .0) (drop (s .args .sizes .«key_bytes») (zeros stringRoom)) (c .before .before .before .before .before .before .before .add-bits .kept .1 .1 .0 ∙ length-take-le (s .args .sizes .«key_bytes») (zeros stringRoom) (s .pre .0 .key))
 
 array-share-prefix-label-mask : tie.Need-array-share-prefix-label-mask
 array-share-prefix-label-mask c =
     let s = c .before .before .before .before .before .before .before .before .before .before .before .before .before in
-    front-long _ (c .before .before .add-bits2 .last .1 .1 .0) (drop (s .args .sizes .«key_bytes») (zeros 32)) (c .before .before .add-bits2 .kept .1 .1 .0 ∙ length-take-le (s .args .sizes .«key_bytes») (zeros 32) (s .pre .0 .key))
+    front-long _ (c .before .before .add-bits2 .last .1 .1 .0) (drop (s .args .sizes .«key_bytes») (zeros stringRoom)) (c .before .before .add-bits2 .kept .1 .1 .0 ∙ length-take-le (s .args .sizes .«key_bytes») (zeros stringRoom) (s .pre .0 .key))
 
 slice-aggregate-circulant-product-2 : tie.Need-slice-aggregate-circulant-product-2
 slice-aggregate-circulant-product-2 c =
     let s = c .before .before .before .before .before .before .before .before .before .before .before .before .before .before in
-    front-part _ (c .before .before .before .add-bits2 .last .1 .1 .0) (drop (s .args .sizes .«key_bytes») (zeros 32)) (c .before .before .before .add-bits2 .kept .1 .1 .0 ∙ length-take-le (s .args .sizes .«key_bytes») (zeros 32) (s .pre .0 .key))
+    front-part _ (c .before .before .before .add-bits2 .last .1 .1 .0) (drop (s .args .sizes .«key_bytes») (zeros stringRoom)) (c .before .before .before .add-bits2 .kept .1 .1 .0 ∙ length-take-le (s .args .sizes .«key_bytes») (zeros stringRoom) (s .pre .0 .key))
 
 returns : tie.Need-returns
 returns c =
@@ -50,7 +51,7 @@ returns c =
     let s = keys .before .before .before .before .before .before in
     let n = s .args .sizes .«key_bytes» in
     let m = s .args .sizes .«inner_bytes» in
-    let e : length (take n (zeros 32)) ≡ n = length-take-le n (zeros 32) (s .pre .0 .key) in
+    let e : length (take n (zeros stringRoom)) ≡ n = length-take-le n (zeros stringRoom) (s .pre .0 .key) in
     let K = keys .add-bits in
     let X = labels .add-bits2 in
     let P = multiplied .circulant-product in
@@ -63,7 +64,7 @@ returns c =
     let x : List ℕ = X .last .1 .1 .0 in
     z-is (s .args .sizes) t _ _ _ _ _ (K .ensures ∙ (λ i. addBits (e i) (take n t) (take (2 * n - n) (drop n t))))
     (X .ensures ∙ (λ i. addBits (e i) (take (3 * n - 2 * n) (drop (2 * n) t)) (take (4 * n - 3 * n) (drop (3 * n) t))))
-    (P .ensures ∙ (λ i. circulantProduct (s .pre .2 i) (take-at k (drop n (zeros 32)) n (K .kept .1 .1 .0 ∙ e) i) (take-at x (drop n (zeros 32)) n (X .kept .1 .1 .0 ∙ e) i)))
+    (P .ensures ∙ (λ i. circulantProduct (s .pre .2 i) (take-at k (drop n (zeros stringRoom)) n (K .kept .1 .1 .0 ∙ e) i) (take-at x (drop n (zeros stringRoom)) n (X .kept .1 .1 .0 ∙ e) i)))
     (Z .ensures ∙ (λ i. addBits (p i) (P .last .1 .1 .0) (take (4 * n + m + m - (4 * n + m)) (drop (4 * n + m) t))))
     (W .ensures ∙ (λ i. addBits (q i) (Z .last .1 .0) (take (4 * n + m - 4 * n) (drop (4 * n) t))))
 

@@ -1,11 +1,12 @@
--- `pair_frames::fields::read_deal` meets its contract: each part is a field of the deal, in the front of its room.
+-- `pair_frames::fields::read_deal` meets its contract: each part is a field of the deal, in the front of its room, which was zeros.
 use mathlib.Core.Path.{_≡_, refl}
 use mathlib.Core.List.{List}
 use Prim.Native.Nat.{ℕ, _+_, _*_}
 use native.Mathlib.Omega.{arith}
 use lib.Dec.{lit<}
 use Rattle.pair_model.specs.Tape.{dealLayout}
-use Rattle.pair_frames.specs.Schemes.{schemeOf}
+use Rattle.pair_model.specs.StateSlice.{stringRoom, tritsRoom}
+use Rattle.pair_frames.specs.Schemes.{schemeIn}
 use Rattle.pair_frames.proofs.Parts.{field-copied}
 use Rattle.pair_frames.proofs.fields.read_deal.Statement.{statement}
 use Rattle.pair_frames.proofs.fields.read_deal.Tie as tie
@@ -27,17 +28,17 @@ returns c =
     let at = a .at in
     let n = a .sizes .«key_bytes» in
     let m = a .sizes .«inner_bytes» in
-    let fields : List ℕ = dealLayout (schemeOf (a .sizes)) in
+    let fields : List ℕ = dealLayout (schemeIn (a .sizes)) in
     let key = c .before .before .before .before .before .before .before .before .before .before .put-part .ensures in
     let label = c .before .before .before .before .before .before .before .put-part2 .ensures in
     let z = c .before .before .before .before .put-part3 .ensures in
     let r = c .before .put-part4 .ensures in (
-      field-copied fields 0 at at s (lit< tt) (omega arith) _ _ (key .0) (key .1),
+      field-copied fields 0 at at s (lit< tt) (omega arith) stringRoom _ (key .1),
       (
-        field-copied fields 1 at (at + n) s (lit< tt) (second at n) _ _ (label .0) (label .1),
+        field-copied fields 1 at (at + n) s (lit< tt) (second at n) stringRoom _ (label .1),
         (
-          field-copied fields 2 at (at + 2 * n) s (lit< tt) (third at n) _ _ (z .0) (z .1),
-          field-copied fields 3 at (at + 2 * n + m) s (lit< tt) (fourth at n m) _ _ (r .0) (r .1),
+          field-copied fields 2 at (at + 2 * n) s (lit< tt) (third at n) stringRoom _ (z .1),
+          field-copied fields 3 at (at + 2 * n + m) s (lit< tt) (fourth at n m) tritsRoom _ (r .1),
         ),
       ),
     )

@@ -8,7 +8,7 @@ use Rattle.linear_model.specs.Bits.{addBits}
 use Rattle.pair_model.specs.Scheme.{concat}
 use Rattle.pair_model.specs.Frame.{openKind, header, frame, frameBytes, headerBytes}
 use Rattle.pair_model.proofs.Internal.FieldCopies.{fields-none, fields-more, fields-front}
-use Rattle.pair_frames.specs.Schemes.{schemeOf}
+use Rattle.pair_frames.specs.Schemes.{schemeIn}
 use Rattle.pair_frames.proofs.Parts.{headed, sum-part}
 use Rattle.pair_frames.proofs.fields.write_open_frame.Statement.{statement}
 use Rattle.pair_frames.proofs.fields.write_open_frame.Tie as tie
@@ -28,7 +28,7 @@ returns c =
     let f0 = fields-more (fields-none {d = o}) headerBytes (h .header-bytes .result) _ l (omega (arith, s .pre .1)) (p0 .put .ensures) in
     let f1 = sum-part f0 n (omega (arith, s .pre .1)) (a .key .now) (a .key-mask .now) _ (p1 .add-bits .ensures) in
     let f2 = sum-part f1 n (omega (arith, s .pre .1)) (a .label .now) (a .label-mask .now) _ (p2 .add-bits2 .ensures) in
-    let e : headerBytes + n + n ≡ frameBytes (schemeOf (a .sizes)) openKind = omega arith in
+    let e : headerBytes + n + n ≡ frameBytes (schemeIn (a .sizes)) openKind = omega arith in
     fields-front f2
     ∙ (λ i. (h .header-bytes .ensures i ++ concat (addBits n (a .key .now) (a .key-mask .now) ∷ addBits n (a .label .now) (a .label-mask .now) ∷ [])) ++ drop (e i) o)
 

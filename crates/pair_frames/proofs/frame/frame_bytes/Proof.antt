@@ -7,7 +7,7 @@ use borrow.Author.Needs.{needs}
 use types.Run.{OneOf}
 use Rattle.pair_model.specs.Scheme.{Scheme}
 use Rattle.pair_model.specs.Frame.{frameBytes, headerBytes}
-use Rattle.pair_frames.specs.Schemes.{schemeOf}
+use Rattle.pair_frames.specs.Schemes.{schemeIn}
 use Rattle.pair_frames.proofs.frame.frame_bytes.Statement.{statement}
 use Rattle.pair_frames.proofs.frame.frame_bytes.Tie as tie
 
@@ -24,7 +24,7 @@ returns-4 : tie.Need-returns-4
 returns-4 c = rw (c .before .match .keys4) (omega arith)
 
 returns-5 : tie.Need-returns-5
-returns-5 c = rest (schemeOf (c .before .args .sizes)) (c .before .args .kind) (c .match .rest .0 .0 .0 .1) (c .match .rest .0 .0 .1) (c .match .rest .0 .1) (c .match .rest .1)
+returns-5 c = rest (schemeIn (c .before .args .sizes)) (c .before .args .kind) (c .match .rest .0 .0 .0 .1) (c .match .rest .0 .0 .1) (c .match .rest .0 .1) (c .match .rest .1)
   where
     rest : (S : Scheme) (k : ℕ) → (OneOf (1 ∷ []) k → ⊥) → (OneOf (2 ∷ []) k → ⊥) → (OneOf (3 ∷ []) k → ⊥) → (OneOf (4 ∷ []) k → ⊥) → headerBytes ≡ frameBytes S k
     rest S zero h1 h2 h3 h4 = refl

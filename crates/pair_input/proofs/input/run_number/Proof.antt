@@ -25,7 +25,7 @@ returns-3 c =
     let input = i .before .before .before .args .input .now in
     let l = i .before .if1 .left in
     let v : length (take 64 (drop 320 input)) ≡ 64 = length-take-le 64 (drop 320 input) (rw length-drop (omega (arith, l))) in
-    run-fit input _ l (i .if2 .left) (file-length input l) _ (m .matrix-check .ensures ∙ ap checkNumber (file-is input))
+    run-fit input _ l (i .if2 .left) (file-length input l) _ (m .matrix-check .ensures ∙ ap (checkNumber 1) (file-is input))
     (ap (fitTrits 32 256) (sym (r0-is input)) ∙ sym (t .trits-fit .ensures ∙ fit-vector 32 (take 64 (drop 320 input)) v) ∙ c .if3 .taken)
 
 returns-4 : tie.Need-returns-4
@@ -37,7 +37,7 @@ returns-4 c =
     let l = i .before .if1 .left in
     let v : length (take 64 (drop 320 input)) ≡ 64 = length-take-le 64 (drop 320 input) (rw length-drop (omega (arith, l))) in
     c .with-unfit-tape .ensures
-    ∙ run-unfit input _ l (i .if2 .left) (file-length input l) _ (m .matrix-check .ensures ∙ ap checkNumber (file-is input))
+    ∙ run-unfit input _ l (i .if2 .left) (file-length input l) _ (m .matrix-check .ensures ∙ ap (checkNumber 1) (file-is input))
     (ap (fitTrits 32 256) (sym (r0-is input)) ∙ sym (t .trits-fit .ensures ∙ fit-vector 32 (take 64 (drop 320 input)) v) ∙ c .before .if3 .left)
 
 pub run-number-spec : {M : Type 1} → statement M

@@ -1,15 +1,14 @@
 -- `pair_matrix::rows::write_code` meets its contract: the product of the sizes' layout, whose rows have two planes.
 use mathlib.Core.Path.{_≡_, ap, sym, subst, _∙_}
-use mathlib.Core.List.{List, _++_}
-use Prim.Native.Nat.{ℕ, _*_, _/_, _≤_}
+use mathlib.Core.List.{_++_}
+use Prim.Native.Nat.{_*_, _/_, _≤_}
 use native.Mathlib.Omega.{arith}
 use borrow.Author.Needs.{needs}
 use lib.ListN.{length, drop}
-use Rattle.linear_model.specs.Products.{planeBytes, matrixProduct}
+use Rattle.linear_model.specs.Products.{matrixProduct}
 use Rattle.matrix_model.specs.Block.{Layout}
-use Rattle.matrix_model.specs.File.{Fits, fileSize, rowPlaneOf, rowsOf}
-use Rattle.matrix_model.specs.Product.{codePlaneOf}
-use Rattle.pair_frames.specs.Schemes.{fileLayout, schemeOf}
+use Rattle.matrix_model.specs.File.{Fits, fileSize, rowPlaneOf, codePlaneOf, rowsOf}
+use Rattle.pair_frames.specs.Schemes.{fileLayout, schemeIn}
 use Rattle.pair_model.specs.Scheme.{files}
 use Rattle.pair_model.specs.Evaluator.{codeOf}
 use Rattle.pair_model.proofs.Theorem.ShareLaws.{bytes-code}
@@ -37,7 +36,7 @@ returns c =
     let o = a .out .now in
     let l = fileLayout (a .sizes) in
     let p = codePlaneOf l in
-    let S = schemeOf (a .sizes) in
+    let S = schemeIn (a .sizes) in
     let half : 2 * m / 2 ≡ m = omega arith in
     c .before .before .code-of .ensures
     ∙ ap (λ (k : Layout). matrixProduct (codePlaneOf k) (rowPlaneOf k) (k .rowCount) (rowsOf k file) v ++ drop (2 * codePlaneOf k) o)

@@ -4,10 +4,11 @@ use Prim.Native.Nat.{_+_, _*_, _≤_}
 use native.Mathlib.Omega.{arith}
 use lib.ListN.{length, take}
 use lib.Seq.{length-take-le}
+use Rattle.pair_model.specs.StateSlice.{stringRoom}
 use Rattle.linear_model.specs.Bits.{zeros}
 use Rattle.numbers.specs.Number.{output, reported}
 use Rattle.source_model.proofs.Draws.{drawn-small}
-use Rattle.pair_frames.specs.Schemes.{schemeOf}
+use Rattle.pair_frames.specs.Schemes.{schemeIn}
 use Rattle.pair_frames.proofs.Fronts.{lent-fits, lent-front, lent-long}
 use Rattle.pair_sampler.proofs.Samples.{part-long, sample-output, sample-number, sample-next, sample-refused, sample-written}
 use Rattle.pair_sampler.proofs.sampler.sample_sized.Statement.{statement}
@@ -17,19 +18,19 @@ returns : tie.Need-returns
 unfolding output reported
 returns c =
     let r = c .refused .ensures in
-    (r .0 ∙ sample-output (schemeOf (c .before .before .before .before .args .sizes)) _ _ _ (omega (arith, c .before .if1 .taken)), (rw (r .0, r .1), rw (r .0)))
+    (r .0 ∙ sample-output (schemeIn (c .before .before .before .before .args .sizes)) _ _ _ (omega (arith, c .before .if1 .taken)), (rw (r .0, r .1), rw (r .0)))
 
 array-share-prefix-trits : tie.Need-array-share-prefix-trits
 array-share-prefix-trits c =
     let d = c .before .before .before .before .before .draw-from in
     let s = c .before .before .before .before .before .before .before .before .before .before .before in
-    lent-fits (8 * s .args .sizes .«inner_bytes») (zeros 256) (d .last .1 .1 .1 .0) (omega (arith, s .pre .inner)) (d .kept .1 .1 .1 .0)
+    lent-fits (8 * s .args .sizes .«inner_bytes») (zeros (8 * stringRoom)) (d .last .1 .1 .1 .0) (omega (arith, s .pre .inner)) (d .kept .1 .1 .1 .0)
 
 slice-aggregate-pack : tie.Need-slice-aggregate-pack
 slice-aggregate-pack c =
     let d = c .before .before .before .before .before .before .draw-from in
     let s = c .before .before .before .before .before .before .before .before .before .before .before .before in
-    sym (lent-long (8 * s .args .sizes .«inner_bytes») (zeros 256) (d .last .1 .1 .1 .0) (omega (arith, s .pre .inner)) (d .kept .1 .1 .1 .0))
+    sym (lent-long (8 * s .args .sizes .«inner_bytes») (zeros (8 * stringRoom)) (d .last .1 .1 .1 .0) (omega (arith, s .pre .inner)) (d .kept .1 .1 .1 .0))
 
 pack-requires : tie.Need-pack-requires
 pack-requires c κs =
@@ -38,12 +39,12 @@ pack-requires c κs =
     let k = 4 * s .args .sizes .«key_bytes» + 2 * s .args .sizes .«inner_bytes» in
     let w = 8 * s .args .sizes .«inner_bytes» in
     let t = d .last .1 .1 .1 .0 in
-    let h : w ≤ 256 = omega (arith, s .pre .inner) in
+    let h : w ≤ 8 * stringRoom = omega (arith, s .pre .inner) in
     let kept = d .kept .1 .1 .1 .0 in
     let e = d .ensures .1 .1 .1 .0 (c .before .before .if2 .taken) in (
-      omega (arith, lent-long w (zeros 256) t h kept),
+      omega (arith, lent-long w (zeros (8 * stringRoom)) t h kept),
       part-long _ _ _ (omega (arith, c .before .before .before .before .before .before .before .before .before .before .if1 .left, c .before .before .before .before .before .before .out .given .1)),
-      λ j. rw (lent-front w (zeros 256) t h kept, e) (omega (arith, drawn-small (length (take k (s .args .out .now))) (length (take w (zeros 256))) (s .args .source .now) (s .args .start) j)),
+      λ j. rw (lent-front w (zeros (8 * stringRoom)) t h kept, e) (omega (arith, drawn-small (length (take k (s .args .out .now))) (length (take w (zeros (8 * stringRoom)))) (s .args .source .now) (s .args .start) j)),
     )
 
 returns-2 : tie.Need-returns-2
@@ -51,19 +52,19 @@ returns-2 c =
     let d = c .before .before .before .before .before .before .before .before .before .before .draw-from in
     let s = c .before .before .before .before .before .before .before .before .before .before .before .before .before .before .before .before in
     let a = s .args in
-    let S = schemeOf (a .sizes) in
+    let S = schemeIn (a .sizes) in
     let k = 4 * a .sizes .«key_bytes» + 2 * a .sizes .«inner_bytes» in
     let w = 8 * a .sizes .«inner_bytes» in
-    let h : w ≤ 256 = omega (arith, s .pre .inner) in
+    let h : w ≤ 8 * stringRoom = omega (arith, s .pre .inner) in
     let room = c .before .before .before .before .before .before .before .before .before .before .before .before .before .if1 .left in
     let ec = length-take-le k (a .out .now) (omega (arith, room)) in
-    let ew = length-take-le w (zeros 256) h in
+    let ew = length-take-le w (zeros (8 * stringRoom)) h in
     let e = d .ensures in
     let z = c .before .before .before .before .before .if2 .taken in (
       sample-number S _ _ (ec ∙ omega arith) ew _ _ (omega (arith, room)) (e .0),
       (
         sample-next S _ _ (ec ∙ omega arith) ew _ _ (e .1 .0),
-        sample-written S _ _ (ec ∙ omega arith) ew k _ ec refl (a .out .now) room _ _ _ _ z (e .1 .1 .0) (lent-front w (zeros 256) _ h (d .kept .1 .1 .1 .0) ∙ e .1 .1 .1 .0 z) (c .before .before .pack .ensures),
+        sample-written S _ _ (ec ∙ omega arith) ew k _ ec refl (a .out .now) room _ _ _ _ z (e .1 .1 .0) (lent-front w (zeros (8 * stringRoom)) _ h (d .kept .1 .1 .1 .0) ∙ e .1 .1 .1 .0 z) (c .before .before .pack .ensures),
       ),
     )
 
@@ -72,11 +73,11 @@ returns-3 c =
     let d = c .before .before .before .before .before .draw-from in
     let s = c .before .before .before .before .before .before .before .before .before .before .before in
     let a = s .args in
-    let S = schemeOf (a .sizes) in
+    let S = schemeIn (a .sizes) in
     let k = 4 * a .sizes .«key_bytes» + 2 * a .sizes .«inner_bytes» in
     let room = c .before .before .before .before .before .before .before .before .if1 .left in
     let ec = length-take-le k (a .out .now) (omega (arith, room)) in
-    let ew = length-take-le (8 * a .sizes .«inner_bytes») (zeros 256) (omega (arith, s .pre .inner)) in
+    let ew = length-take-le (8 * a .sizes .«inner_bytes») (zeros (8 * stringRoom)) (omega (arith, s .pre .inner)) in
     let e = d .ensures in (
       sample-number S _ _ (ec ∙ omega arith) ew _ _ (omega (arith, room)) (e .0),
       (
@@ -100,7 +101,7 @@ sample-sized-spec =
     (λ c. omega (arith, c .if1 .left))
     (λ c. sym (length-take-le _ (c .before .before .before .before .args .out .now) (omega (arith, c .before .if1 .left))))
     (λ c. omega (arith, c .before .before .before .before .pre .inner))
-    (λ c. let s = c .before .before .before .before .before in sym (length-take-le (8 * s .args .sizes .«inner_bytes») (zeros 256) (omega (arith, s .pre .inner))))
+    (λ c. let s = c .before .before .before .before .before in sym (length-take-le (8 * s .args .sizes .«inner_bytes») (zeros (8 * stringRoom)) (omega (arith, s .pre .inner))))
     (λ c κs. tt)
     array-share-prefix-trits
     slice-aggregate-pack

@@ -7,11 +7,11 @@ use borrow.Author.Needs.{needs}
 use lib.ListN.{length}
 use Rattle.linear_model.specs.Products.{planeBytes}
 use Rattle.numbers.specs.Number.{atFront}
-use Rattle.pair_frames.specs.Schemes.{schemeOf}
+use Rattle.pair_frames.specs.Schemes.{schemeIn}
 use Rattle.pair_model.specs.Scheme.{Files, files, noFiles, Scheme}
 use Rattle.pair_model.specs.Frame.{parameters, maskKind, shareKind, kindOf, sideOf, sessionOf, frameBytes, bodyOf}
 use Rattle.pair_model.specs.Unit.{Stepped, stepNumber, stepReading}
-use Rattle.pair_model.specs.StateSlice.{encodeState, decodeState}
+use Rattle.pair_model.specs.StateSlice.{encodeState, decodeAs}
 use Rattle.pair_model.proofs.Theorem.StepLaws.{Fits, fits}
 use Rattle.pair_model.proofs.Internal.Lengths.{deal-length, open-length, share-length}
 use Rattle.pair_model.proofs.Internal.Advances.{advance-deal, advance-open, advance-mask}
@@ -37,8 +37,8 @@ module _ (S : Scheme) (s f : List ℕ) (lent : Files) (n : ℕ) (z : stepNumber 
   read e = subst (λ (k : ℕ). length (stepReading S k .content lent) ≡ stepReading S k .bytes) e (accepted .read-length)
 
 -- the stage of the state in a slice is its first byte
-waits : (S : Scheme) (s : List ℕ) (k : ℕ) → kindOf s ≡ k → decodeState S s .stage ≡ k
-unfolding decodeState
+waits : (S : Scheme) (s : List ℕ) (k : ℕ) → kindOf s ≡ k → decodeAs S s .stage ≡ k
+unfolding decodeAs
 waits S s k e = e
 
 -- what was done is the step w, where that is v
@@ -51,7 +51,7 @@ deal-in-place-requires : tie.Need-deal-in-place-requires
 deal-in-place-requires c κs =
     let s = c .before .before .before .before .before .before .before .before in
     let a = s .args in
-    let S = schemeOf (a .sizes) in
+    let S = schemeIn (a .sizes) in
     let lent = files (a .file .now) in
     let n = length (a .out .now) in
     (s .pre .0, s .pre .1, long S (a .state .now) (a .f .now) lent n (s .pre .2) 1 (c .before .before .if1 .taken), accepted S (a .state .now) (a .f .now) lent n (s .pre .2) .room)
@@ -60,8 +60,8 @@ returns : tie.Need-returns
 returns c =
     let d = c .before .before .before .before .before in
     let a = d .before .before .before .before .before .before .before .before .before .args in
-    let S = schemeOf (a .sizes) in
-    let u = decodeState S (a .state .now) in
+    let S = schemeIn (a .sizes) in
+    let u = decodeAs S (a .state .now) in
     let b = bodyOf (a .f .now) in
     let e = advance-deal S u b (files (a .file .now)) (waits S (a .state .now) 1 (d .before .before .before .if1 .taken)) in
     moved _ _ _ _ (a .out .now) _ e (c .frame-bytes .ensures ∙ deal-length S u b) (d .deal-in-place .ensures .0) (d .deal-in-place .ensures .1)
@@ -70,7 +70,7 @@ open-in-place-requires : tie.Need-open-in-place-requires
 open-in-place-requires c κs =
     let s = c .before .before .before .before .before .before .before .before .before in
     let a = s .args in
-    let S = schemeOf (a .sizes) in
+    let S = schemeIn (a .sizes) in
     let lent = files (a .file .now) in
     let n = length (a .out .now) in
     (s .pre .0, s .pre .1, long S (a .state .now) (a .f .now) lent n (s .pre .2) 2 (c .before .before .if2 .taken), accepted S (a .state .now) (a .f .now) lent n (s .pre .2) .room)
@@ -79,8 +79,8 @@ returns-2 : tie.Need-returns-2
 returns-2 c =
     let d = c .before .before .before .before .before in
     let a = d .before .before .before .before .before .before .before .before .before .before .args in
-    let S = schemeOf (a .sizes) in
-    let u = decodeState S (a .state .now) in
+    let S = schemeIn (a .sizes) in
+    let u = decodeAs S (a .state .now) in
     let b = bodyOf (a .f .now) in
     let e = advance-open S u b (files (a .file .now)) noFiles refl (waits S (a .state .now) 2 (d .before .before .before .if2 .taken)) in
     moved _ _ _ _ (a .out .now) _ e (c .frame-bytes2 .ensures ∙ open-length S u b noFiles) (d .open-in-place .ensures .0) (d .open-in-place .ensures .1)
@@ -89,7 +89,7 @@ mask-in-place-requires : tie.Need-mask-in-place-requires
 mask-in-place-requires c κs =
     let s = c .before .before .before .before .before .before .before .before .before in
     let a = s .args in
-    let S = schemeOf (a .sizes) in
+    let S = schemeIn (a .sizes) in
     let t = a .state .now in
     let f = a .f .now in
     let lent = files (a .file .now) in
@@ -102,9 +102,9 @@ returns-3 c =
     let d = c .before .before .before .before .before in
     let s = d .before .before .before .before .before .before .before .before .before .before in
     let a = s .args in
-    let S = schemeOf (a .sizes) in
+    let S = schemeIn (a .sizes) in
     let lent = files (a .file .now) in
-    let u = decodeState S (a .state .now) in
+    let u = decodeAs S (a .state .now) in
     let b = bodyOf (a .f .now) in
     let m = last S (a .state .now) (a .f .now) lent (length (a .out .now)) (s .pre .2) (d .before .before .before .before .if1 .left) (d .before .before .before .if2 .left) in
     let e = advance-mask S u b lent (waits S (a .state .now) 3 m) in

@@ -1,19 +1,49 @@
--- `pair_units::begin::begin` meets its contract: at the sizes of document 01 the strings fill their rooms.
-use mathlib.Core.Path.{sym, ap, _∙_}
-use Rattle.pair_frames.proofs.Bases.{base-fits}
-use Rattle.pair_model.specs.Base.{base}
-use Rattle.pair_model.proofs.Theorem.Main.{begins, base-demand3}
+-- `pair_units::begin::begin` meets its contract: of a set that there is, the beginning is its scheme's.
+use mathlib.Core.Path.{sym, ap, subst, _∙_}
+use Rattle.numbers.proofs.Sets.{counted-is}
+use Rattle.pair_frames.specs.Schemes.{schemeIn, setSizes, Fits}
+use Rattle.pair_frames.proofs.Bases.{set-is, set-fits}
+use Rattle.pair_model.specs.Base.{schemeOf, InEachSet}
+use Rattle.pair_model.specs.Frame.{parameters}
+use Rattle.pair_model.specs.Unit.{Beginning, begin}
+use Rattle.pair_model.specs.Run.{protocol}
+use Rattle.pair_model.specs.Theorem.{Begins, Privacy}
+use Rattle.pair_model.proofs.Internal.Begins.{begin-in, begin-none}
+use Rattle.pair_model.proofs.Theorem.Main.{begins, set-demand3}
 use Rattle.pair_units.specs.Units.{unitOf}
-use Rattle.pair_units.proofs.Rooms.{full, unit-back}
 use Rattle.pair_units.proofs.begin.begin.Statement.{statement}
 use Rattle.pair_units.proofs.begin.begin.Tie as tie
 
+-- the clauses that speak of all runs
+theorems : InEachSet (λ S. Begins (protocol S)) × InEachSet (λ S. Privacy (protocol S))
+theorems = ((λ set is. begins (schemeOf set)), (λ set is. set-demand3 set .privacy))
+
+begin-unit-requires : tie.Need-begin-unit-requires
+begin-unit-requires c κs =
+    let set = c .before .before .before .before .before .args .set in
+    let is = sym (c .before .before .is-set .ensures) ∙ c .before .if1 .taken in
+    subst Fits (sym (c .sizes-of .ensures ∙ ap setSizes (counted-is set is))) (set-fits set is)
+
 returns : tie.Need-returns
 returns c =
-    let b = c .begin-unit in (
-      b .ensures .0,
-      (sym (unit-back (b .result .next) (full _ _ (b .ok .1 .1 .1 .0))) ∙ ap unitOf (b .ensures .1), (begins base, base-demand3 .privacy)),
+    let a = c .before .before .before .before .before .before .args in
+    let t = parameters (a .side) (a .session) in
+    let is = sym (c .before .before .before .is-set .ensures) ∙ c .before .before .if1 .taken in
+    let z = c .before .sizes-of .ensures ∙ ap setSizes (counted-is (a .set) is) in
+    let e = (λ i. begin (schemeIn (z i)) t (a .key .now) (a .label .now)) ∙ (λ i. begin (set-is (a .set) is i) t (a .key .now) (a .label .now))
+    ∙ sym (begin-in (a .set) is t (a .key .now) (a .label .now)) in
+    let b = c .begin-unit .ensures in (
+      b .0 ∙ ap (λ (b : Beginning). b .result) e,
+      (b .1 ∙ ap (λ (b : Beginning). unitOf (b .next)) e, theorems),
+    )
+
+returns-2 : tie.Need-returns-2
+returns-2 c =
+    let a = c .before .before .before .before .before .args in
+    let e = sym (begin-none (a .set) (sym (c .before .before .is-set .ensures) ∙ c .before .if1 .left) (parameters (a .side) (a .session)) (a .key .now) (a .label .now)) in (
+      ap (λ (b : Beginning). b .result) e,
+      (c .idle .ensures ∙ ap (λ (b : Beginning). unitOf (b .next)) e, theorems),
     )
 
 pub begin-spec : {M : Type 1} → statement M
-begin-spec = tie.close (tie.spec (λ c κs. base-fits) returns)
+begin-spec = tie.close (tie.spec (λ c κs. tt) (λ c κs. tt) begin-unit-requires returns (λ c κs. tt) returns-2)

@@ -5,18 +5,20 @@ use Prim.Native.Nat.{ℕ}
 use lib.Seq.{length-take-le}
 use Rattle.linear_model.specs.Bits.{zeros}
 use Rattle.pair_frames.specs.Headers.{parametersIn}
-use Rattle.pair_frames.specs.Schemes.{schemeOf}
+use Rattle.pair_frames.specs.Schemes.{schemeIn}
 use Rattle.pair_frames.proofs.Fronts.{zeros-front}
 use Rattle.pair_model.specs.Unit.{state, halves}
+use Rattle.pair_model.specs.StateSlice.{stringRoom}
+use Rattle.pair_units.specs.Units.{unitOf}
 use Rattle.pair_units.proofs.begin.cleared.Statement.{statement}
 use Rattle.pair_units.proofs.begin.cleared.Tie as tie
 
 slice-aggregate-half : tie.Need-slice-aggregate-half
-slice-aggregate-half c = sym (length-take-le (c .before .args .sizes .«key_bytes») (zeros 32) (c .before .pre .key))
+slice-aggregate-half c = sym (length-take-le (c .before .args .sizes .«key_bytes») (zeros stringRoom) (c .before .pre .key))
 
 with-halves-requires : tie.Need-with-halves-requires
 with-halves-requires c κs =
-    let l = length-take-le (c .before .args .sizes .«key_bytes») (zeros 32) (c .before .pre .key) in
+    let l = length-take-le (c .before .args .sizes .«key_bytes») (zeros stringRoom) (c .before .pre .key) in
     (c .before .pre, l, l)
 
 returns : tie.Need-returns
@@ -24,7 +26,8 @@ returns c =
     let s = c .before .before in
     let a = s .args in
     c .with-halves .ensures
-    ∙ ap (λ (x : List ℕ). state (parametersIn (a .parameters)) (a .stage) (halves (schemeOf (a .sizes)) x x)) (zeros-front (a .sizes .«key_bytes») 32 (s .pre .key))
+    ∙ ap (λ (x : List ℕ). unitOf (state (a .sizes .set) (parametersIn (a .parameters)) (a .stage) (halves (schemeIn (a .sizes)) x x)))
+    (zeros-front (a .sizes .«key_bytes») stringRoom (s .pre .key))
 
 pub cleared-spec : {M : Type 1} → statement M
 cleared-spec =

@@ -1,11 +1,10 @@
--- `pair_units::begin::with_halves` meets its contract: each half in the front of its room, and zeros in the others.
+-- `pair_units::begin::with_halves` meets its contract: each half in its room, and zeros in the others.
 use mathlib.Core.Path.{refl}
 use Prim.Native.Nat.{_*_}
 use native.Mathlib.Omega.{arith}
-use Rattle.pair_frames.specs.Headers.{parametersIn}
-use Rattle.pair_frames.proofs.Parts.{front-of-room}
-use Rattle.pair_frames.proofs.Fronts.{zeros-front}
-use Rattle.pair_model.specs.Unit.{state}
+use Rattle.pair_frames.proofs.Parts.{room-copied}
+use Rattle.pair_frames.proofs.Fronts.{zeros-room}
+use Rattle.pair_model.specs.StateSlice.{stringRoom, tritsRoom}
 use Rattle.pair_units.proofs.begin.with_halves.Statement.{statement}
 use Rattle.pair_units.proofs.begin.with_halves.Tie as tie
 
@@ -15,21 +14,23 @@ returns c =
     let a = s .args in
     let n = a .sizes .«key_bytes» in
     let m = a .sizes .«inner_bytes» in
-    let key = front-of-room (a .key .now) _ _ n (s .pre .1) (c .before .before .before .before .put .ensures) in
-    let label = front-of-room (a .label .now) _ _ n (s .pre .2) (c .before .put2 .ensures) in
-    let mask = zeros-front n 32 (s .pre .0 .key) in
-    let inner = zeros-front m 32 (s .pre .0 .inner) in
-    let planes = zeros-front (2 * m) 64 (omega (arith, s .pre .0 .inner)) in
-    λ i. state (parametersIn (a .parameters)) (a .stage)
-    (record {
+    let key = room-copied stringRoom (a .key .now) _ (c .before .before .before .before .put .ensures) in
+    let label = room-copied stringRoom (a .label .now) _ (c .before .put2 .ensures) in
+    let mask = zeros-room n stringRoom (s .pre .0 .key) in
+    let inner = zeros-room m stringRoom (s .pre .0 .inner) in
+    let trits = zeros-room (2 * m) tritsRoom (omega (arith, s .pre .0 .inner)) in
+    λ i. record {
+      set = a .sizes .set;
+      parameters = a .parameters;
+      stage = a .stage;
       key = key i;
       label = label i;
-      keyMask = mask i;
-      labelMask = mask i;
+      «key_mask» = mask i;
+      «label_mask» = mask i;
       z = inner i;
-      r = planes i;
-      ownMask = inner i;
-    })
+      r = trits i;
+      «own_mask» = inner i;
+    }
 
 pub with-halves-spec : {M : Type 1} → statement M
 with-halves-spec =

@@ -7,7 +7,7 @@ use lib.ListN.{take, drop, length-drop}
 use lib.Seq.{take-all}
 use Rattle.linear_model.specs.Bits.{addBits}
 use Rattle.numbers.specs.Number.{atFront}
-use Rattle.pair_frames.specs.Schemes.{schemeOf}
+use Rattle.pair_frames.specs.Schemes.{schemeIn}
 use Rattle.pair_frames.proofs.Fronts.{prefix, prefix-long}
 use Rattle.pair_model.specs.Scheme.{files}
 use Rattle.pair_model.specs.Frame.{shareKind, frame, bodyOf, headerBytes}
@@ -34,7 +34,7 @@ unfolding takeMask
 returns c =
     let s = c .before .before .before .before .before .before .before .before .before .before .before .before .before .before in
     let a = s .args in
-    let S = schemeOf (a .sizes) in
+    let S = schemeIn (a .sizes) in
     let m = a .sizes .«inner_bytes» in
     let u = stateAt (a .sizes) (a .u) in
     let b = bodyOf (a .f .now) in

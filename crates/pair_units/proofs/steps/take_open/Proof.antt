@@ -6,11 +6,12 @@ use native.Mathlib.Omega.{arith}
 use lib.ListN.{drop}
 use lib.Seq.{length-take-le}
 use Rattle.linear_model.specs.Bits.{zeros}
-use Rattle.pair_frames.specs.Schemes.{schemeOf}
+use Rattle.pair_frames.specs.Schemes.{schemeIn}
 use Rattle.pair_frames.proofs.Fronts.{prefix, prefix-long, lent-fits, lent-front, lent-long}
 use Rattle.pair_model.specs.Scheme.{noFiles}
 use Rattle.pair_model.specs.Frame.{maskKind, frame, bodyOf, headerBytes}
 use Rattle.pair_model.specs.Unit.{withMask, takeOpen}
+use Rattle.pair_model.specs.StateSlice.{stringRoom}
 use Rattle.pair_model.proofs.Internal.Lengths.{open-length}
 use Rattle.pair_units.specs.Units.{stateAt}
 use Rattle.pair_units.proofs.Rooms.{full}
@@ -48,7 +49,7 @@ slice-aggregate-write-own-mask-5 : tie.Need-slice-aggregate-write-own-mask-5
 slice-aggregate-write-own-mask-5 c = let s = c .before .before .before .before .before .before .before .before .before .before .before .before .before in prefix-long (s .args .sizes .«inner_bytes») (s .args .u .z) (full (s .args .u) _ (s .good .1 .0) .z) (s .pre .0 .inner)
 
 slice-aggregate-write-own-mask-6 : tie.Need-slice-aggregate-write-own-mask-6
-slice-aggregate-write-own-mask-6 c = let s = c .before .before .before .before .before .before .before .before .before .before .before .before .before .before in sym (length-take-le (s .args .sizes .«inner_bytes») (zeros 32) (s .pre .0 .inner))
+slice-aggregate-write-own-mask-6 c = let s = c .before .before .before .before .before .before .before .before .before .before .before .before .before .before in sym (length-take-le (s .args .sizes .«inner_bytes») (zeros stringRoom) (s .pre .0 .inner))
 
 write-own-mask-requires : tie.Need-write-own-mask-requires
 write-own-mask-requires c κs =
@@ -56,20 +57,20 @@ write-own-mask-requires c κs =
       s .pre .0,
       sym (prefix-long (s .args .sizes .«key_bytes») (s .args .u .«label_mask») (full (s .args .u) _ (s .good .1 .0) .labelMask) (s .pre .0 .key)),
       s .pre .1,
-      length-take-le (s .args .sizes .«inner_bytes») (zeros 32) (s .pre .0 .inner),
+      length-take-le (s .args .sizes .«inner_bytes») (zeros stringRoom) (s .pre .0 .inner),
     )
 
 array-share-prefix-own-mask : tie.Need-array-share-prefix-own-mask
-array-share-prefix-own-mask c = let s = c .before .before .before .before .before .before .before .before .before .before .before .before .before .before .before .before in let l = c .before .write-own-mask in lent-fits (s .args .sizes .«inner_bytes») (zeros 32) (l .last .1 .1 .1 .1 .1 .1 .1 .1 .0) (s .pre .0 .inner) (l .kept .1 .1 .1 .1 .1 .1 .1 .1 .0)
+array-share-prefix-own-mask c = let s = c .before .before .before .before .before .before .before .before .before .before .before .before .before .before .before .before in let l = c .before .write-own-mask in lent-fits (s .args .sizes .«inner_bytes») (zeros stringRoom) (l .last .1 .1 .1 .1 .1 .1 .1 .1 .0) (s .pre .0 .inner) (l .kept .1 .1 .1 .1 .1 .1 .1 .1 .0)
 
 slice-aggregate-write-frame : tie.Need-slice-aggregate-write-frame
-slice-aggregate-write-frame c = let s = c .before .before .before .before .before .before .before .before .before .before .before .before .before .before .before .before .before in let l = c .before .before .write-own-mask in sym (lent-long (s .args .sizes .«inner_bytes») (zeros 32) (l .last .1 .1 .1 .1 .1 .1 .1 .1 .0) (s .pre .0 .inner) (l .kept .1 .1 .1 .1 .1 .1 .1 .1 .0))
+slice-aggregate-write-frame c = let s = c .before .before .before .before .before .before .before .before .before .before .before .before .before .before .before .before .before in let l = c .before .before .write-own-mask in sym (lent-long (s .args .sizes .«inner_bytes») (zeros stringRoom) (l .last .1 .1 .1 .1 .1 .1 .1 .1 .0) (s .pre .0 .inner) (l .kept .1 .1 .1 .1 .1 .1 .1 .1 .0))
 
 write-frame-requires : tie.Need-write-frame-requires
 write-frame-requires c κs =
     let s = c .before .before .before .before .before .before .before .before .before .before .before .before .before .before .before .before .before .before in
     let l = c .before .before .before .write-own-mask in
-    let long = lent-long (s .args .sizes .«inner_bytes») (zeros 32) (l .last .1 .1 .1 .1 .1 .1 .1 .1 .0) (s .pre .0 .inner) (l .kept .1 .1 .1 .1 .1 .1 .1 .1 .0) in
+    let long = lent-long (s .args .sizes .«inner_bytes») (zeros stringRoom) (l .last .1 .1 .1 .1 .1 .1 .1 .1 .0) (s .pre .0 .inner) (l .kept .1 .1 .1 .1 .1 .1 .1 .1 .0) in
     omega (arith, long, s .pre .2, s .pre .0 .circulant)
 
 returns : tie.Need-returns
@@ -77,13 +78,13 @@ unfolding takeOpen
 returns c =
     let s = c .before .before .before .before .before .before .before .before .before .before .before .before .before .before .before .before .before .before .before .before .before in
     let a = s .args in
-    let S = schemeOf (a .sizes) in
+    let S = schemeIn (a .sizes) in
     let u = stateAt (a .sizes) (a .u) in
     let o = a .out .now in
     let b = bodyOf (a .f .now) in
     let l = c .before .before .before .before .before .before .write-own-mask in
-    let ŵi = lent-front (s .args .sizes .«inner_bytes») (zeros 32) (l .last .1 .1 .1 .1 .1 .1 .1 .1 .0) (s .pre .0 .inner) (l .kept .1 .1 .1 .1 .1 .1 .1 .1 .0) ∙ l .ensures in
-    let long = lent-long (s .args .sizes .«inner_bytes») (zeros 32) (l .last .1 .1 .1 .1 .1 .1 .1 .1 .0) (s .pre .0 .inner) (l .kept .1 .1 .1 .1 .1 .1 .1 .1 .0) in (
+    let ŵi = lent-front (s .args .sizes .«inner_bytes») (zeros stringRoom) (l .last .1 .1 .1 .1 .1 .1 .1 .1 .0) (s .pre .0 .inner) (l .kept .1 .1 .1 .1 .1 .1 .1 .1 .0) ∙ l .ensures in
+    let long = lent-long (s .args .sizes .«inner_bytes») (zeros stringRoom) (l .last .1 .1 .1 .1 .1 .1 .1 .1 .0) (s .pre .0 .inner) (l .kept .1 .1 .1 .1 .1 .1 .1 .1 .0) in (
       (λ i. withMask S u (ŵi i)),
       c .before .before .write-frame .ensures ∙ (λ i. frame maskKind (u .parameters) (ŵi i) ++ drop (headerBytes + long i) o)
           ∙ ap (λ (k : ℕ). takeOpen S u b noFiles .written ++ drop k o) (open-length S u b noFiles),

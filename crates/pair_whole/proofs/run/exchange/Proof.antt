@@ -16,5 +16,5 @@ exchange-spec =
     (λ c κs. c .before .before .before .before .before .before .pre .0)
     (λ c. search needs)
     (λ c κs. c .before .before .before .before .before .before .before .before .pre .1)
-    (λ c κs. search needs)
+    (λ c κs. tt)
     returns)

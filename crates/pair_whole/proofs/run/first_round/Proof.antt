@@ -1,8 +1,9 @@
 -- `pair_whole::run::first_round` meets its contract: the parts of the input are its fields, and those of the deal its frames.
-use mathlib.Core.Path.{refl}
+use mathlib.Core.Path.{refl, _∙_}
 use Prim.Native.Nat.{ℕ}
 use native.Mathlib.Omega.{arith}
 use lib.Dec.{lit≤}
+use Rattle.numbers.proofs.Sets.{number-in}
 use Rattle.pair_model.specs.Scheme.{side0, side1}
 use Rattle.pair_model.specs.Base.{base}
 use Rattle.pair_model.specs.Frame.{codeBytes}
@@ -18,7 +19,7 @@ start-requires c κs =
     let s = d .before .before .before .before in
     let input = s .args .input .now in
     let small : (i : ℕ) → _ = λ i. d .before .before .before .shared-slice-known .given i .fits in
-    start-accepted 0 (key-0 input) (label-0 input) (input-deal-0 input (codeBytes base) (s .pre) small _ _ (d .deal .ensures .0) (d .deal .ensures .1 .0)) (file-is input)
+    start-accepted 0 (key-0 input) (label-0 input) (input-deal-0 input (codeBytes base) (s .pre) small _ _ (d .deal .ensures .0 ∙ number-in 1 _ refl) (d .deal .ensures .1 .0)) (file-is input)
     (deal-accepted input (codeBytes base) (s .pre) small side0)
 
 start-requires-2 : tie.Need-start-requires-2
@@ -27,7 +28,7 @@ start-requires-2 c κs =
     let s = d .before .before .before .before in
     let input = s .args .input .now in
     let small : (i : ℕ) → _ = λ i. d .before .before .before .shared-slice-known .given i .fits in
-    start-accepted 1 (key-1 input) (label-1 input) (input-deal-1 input (codeBytes base) (s .pre) small _ _ (d .deal .ensures .0) (d .deal .ensures .1 .0)) (file-is input)
+    start-accepted 1 (key-1 input) (label-1 input) (input-deal-1 input (codeBytes base) (s .pre) small _ _ (d .deal .ensures .0 ∙ number-in 1 _ refl) (d .deal .ensures .1 .0)) (file-is input)
     (deal-accepted input (codeBytes base) (s .pre) small side1)
 
 returns : tie.Need-returns
@@ -36,8 +37,8 @@ returns c =
     let s = d .before .before .before .before in
     let input = s .args .input .now in
     let small : (i : ℕ) → _ = λ i. d .before .before .before .shared-slice-known .given i .fits in
-    let f0 = input-deal-0 input (codeBytes base) (s .pre) small _ _ (d .deal .ensures .0) (d .deal .ensures .1 .0) in
-    let f1 = input-deal-1 input (codeBytes base) (s .pre) small _ _ (d .deal .ensures .0) (d .deal .ensures .1 .0) in (
+    let f0 = input-deal-0 input (codeBytes base) (s .pre) small _ _ (d .deal .ensures .0 ∙ number-in 1 _ refl) (d .deal .ensures .1 .0) in
+    let f1 = input-deal-1 input (codeBytes base) (s .pre) small _ _ (d .deal .ensures .0 ∙ number-in 1 _ refl) (d .deal .ensures .1 .0) in (
       sends-same (c .both .ensures .0) (start-sent 0 (key-0 input) (label-0 input) f0 (file-is input) (c .before .before .before .before .before .before .start .ensures)),
       sends-same (c .both .ensures .1) (start-sent 1 (key-1 input) (label-1 input) f1 (file-is input) (c .before .start2 .ensures)),
     )
@@ -62,7 +63,7 @@ first-round-spec =
     (λ c. omega (arith, c .before .before .before .before .before .before .before .pre .long))
     (λ c. lit≤ tt)
     (λ c. lit≤ tt)
-    (λ c. omega (arith, c .before .before .before .before .before .deal .kept .1 .1 .0))
+    (λ c. omega (arith, c .before .before .before .before .before .deal .kept .1 .1 .1 .0))
     start-requires
     (λ c. lit≤ tt)
     (λ c. lit≤ tt)
@@ -72,7 +73,7 @@ first-round-spec =
     (λ c. omega (arith, c .before .before .before .before .before .before .before .before .before .before .before .before .pre .long))
     (λ c. lit≤ tt)
     (λ c. lit≤ tt)
-    (λ c. omega (arith, c .before .before .before .before .before .before .before .before .before .before .deal .kept .1 .1 .0))
+    (λ c. omega (arith, c .before .before .before .before .before .before .before .before .before .before .deal .kept .1 .1 .1 .0))
     start-requires-2
     (λ c κs. tt)
     returns)

@@ -7,7 +7,7 @@ use native.Mathlib.Nat.{le-refl}
 use lib.Dec.{lit<, lit≤}
 use lib.ListN.{length}
 use Rattle.numbers.specs.Number.{output}
-use Rattle.pair_frames.proofs.Bases.{base-fits}
+use Rattle.pair_frames.proofs.Bases.{fits-1}
 use Rattle.pair_model.specs.Scheme.{side0, side1}
 use Rattle.pair_model.specs.Base.{base}
 use Rattle.pair_model.specs.Frame.{codeBytes}
@@ -36,7 +36,7 @@ add-shares-requires : tie.Need-add-shares-requires
 add-shares-requires c κs =
     let s0 = c .before .before .before .before .share-frame in
     let s1 = c .before .before .before .share-frame2 in
-    (base-fits, s0 .ok .1 .0 .1, s1 .ok .1 .0 .1, c .before .before .before .before .before .before .before .before .before .before .before .before .before .before .pre .room-is)
+    (fits-1, s0 .ok .1 .0 .1, s1 .ok .1 .0 .1, c .before .before .before .before .before .before .before .before .before .before .before .before .before .before .pre .room-is)
 
 returns : tie.Need-returns
 returns c =

@@ -1,86 +1,120 @@
--- `protocol::units::pair_step` meets its contract: the number decides, and then the slice moves on and stands for the next state. The
--- theorem and the evidence are the model's, and what is said of lists of calls is that of Calls.
+-- `protocol::units::pair_step` meets its contract: the step is that of the slice's set, and the slice stands for the next state. The theorem
+-- and the evidence are the model's, and what is said of lists of calls is that of Calls.
 use mathlib.Core.Path.{_≡_, sym, ap, _∙_}
 use mathlib.Core.List.{List}
+use mathlib.Core.Bool.{cond}
 use Prim.Native.Nat.{ℕ}
 use borrow.Author.Needs.{needs}
+use lib.Dec.{eqb}
 use lib.ListN.{length}
 use Rattle.numbers.specs.Number.{atFront}
+use Rattle.numbers.specs.Sets.{counted}
+use Rattle.numbers.proofs.Sets.{counted-other}
+use Rattle.pair_frames.proofs.Bases.{fits-1, fits-2, fits-3}
 use Rattle.pair_model.specs.Scheme.{Files, files}
-use Rattle.pair_frames.proofs.Bases.{base-fits}
-use Rattle.pair_model.specs.Base.{base}
-use Rattle.pair_model.specs.Frame.{Parameters, parameters, kindOf, sideOf, sessionOf}
-use Rattle.pair_model.specs.Unit.{stepNumber}
-use Rattle.pair_model.specs.StateSlice.{decodeState}
-use Rattle.pair_model.proofs.Internal.Encodings.{step-short, slice-refused, slice-accepted}
+use Rattle.pair_model.specs.Base.{schemeOf, InEachSet}
+use Rattle.pair_model.specs.Unit.{Stepped, step}
+use Rattle.pair_model.specs.Run.{protocol}
+use Rattle.pair_model.specs.Theorem.{Correctness, Privacy, ThreeFrames}
+use Rattle.pair_model.specs.Evidence.{Evidence}
+use Rattle.pair_model.specs.StateSlice.{stateBytes, encodeState, decodeAs, setIn, decodeState, sliceStep, pairStepNumber, pairStepState, pairStepWritten}
+use Rattle.pair_model.specs.Calls.{AreBytes, CallsAreRuns}
+use Rattle.pair_model.proofs.Internal.Encodings.{step-short, by-number, by-written}
 use Rattle.pair_model.proofs.Evidence.Whole.{theorem-and-evidence}
 use Rattle.pair_model.proofs.Theorem.Calls.{decoded-stepped, calls-are-runs}
 use Rattle.protocol.proofs.units.pair_step.Statement.{statement}
 use Rattle.protocol.proofs.units.pair_step.Tie as tie
 
--- the number by the slice's bytes is that of its state
-of-state : (s f : List ℕ) (lent : Files) (n : ℕ) (t : Parameters) → t ≡ parameters (sideOf s) (sessionOf s)
-    → stepNumber base t (kindOf s) f lent n ≡ stepNumber base (decodeState base s .parameters) (decodeState base s .stage) f lent n
-unfolding decodeState
-of-state s f lent n t e = ap (λ (x : Parameters). stepNumber base x (kindOf s) f lent n) e
+module _ (s f : List ℕ) (lent : Files) (o : List ℕ) where
+  abbrev n : ℕ
+  n = length o
+
+  -- the clauses, where s has become t and o has become p
+  abbrev Claims : (t p : List ℕ) (count r : ℕ) → Type 0
+  Claims t p count r =
+      (r ≡ pairStepNumber s f lent n)
+      × ((t ≡ pairStepState s f lent n)
+      × ((p ≡ atFront (pairStepWritten s f lent n) o)
+      × ((count ≡ length (pairStepWritten s f lent n))
+      × ((length s ≡ stateBytes → decodeState t ≡ sliceStep s f lent n .next)
+      × (CallsAreRuns
+      × (InEachSet (λ S. Correctness (protocol S)) × (InEachSet (λ S. Privacy (protocol S)) × (InEachSet (λ S. ThreeFrames (protocol S)) × Evidence))))))))
+
+  -- the step in set k, which is the slice's
+  abbrev taken : ℕ → Stepped
+  taken k = step (schemeOf k) (decodeAs (schemeOf k) s) f lent n
+
+  stepped : (k : ℕ) → setIn s ≡ k → length s ≡ stateBytes → AreBytes s → AreBytes f → (t p : List ℕ) (count r : ℕ)
+      → (r ≡ taken k .result)
+      × ((t ≡ cond (eqb r 0) (encodeState (taken k .next)) s) × ((p ≡ atFront (taken k .written) o) × (count ≡ length (taken k .written))))
+      → Claims t p count r
+  unfolding pairStepState
+  stepped k e long hs hf t p count r h =
+      let is : taken k ≡ sliceStep s f lent n = ap taken (sym e) in
+      let number = h .0 ∙ ap (λ (x : Stepped). x .result) is ∙ by-number s long f lent n in
+      let state : t ≡ pairStepState s f lent n = h .1 .0 ∙ (λ i. cond (eqb (number i) 0) (encodeState (is i .next)) s) in
+      let written = ap (λ (x : Stepped). x .written) is ∙ by-written s long f lent n in (
+        number,
+        (
+          state,
+          (
+            h .1 .1 .0 ∙ ap (λ (w : List ℕ). atFront w o) written,
+            (
+              h .1 .1 .1 ∙ ap length written,
+              ((λ l. ap decodeState state ∙ decoded-stepped s long hs f hf lent n), (calls-are-runs, theorem-and-evidence)),
+            ),
+          ),
+        ),
+      )
 
 returns : tie.Need-returns
 returns c =
     let a = c .before .before .before .before .before .args in
-    let b = step-short base (a .state .now) (c .if1 .taken) (a .f .now) (files (a .file .now)) (length (a .out .now)) in
-    (b .0, (b .1, (rw (b .2), (rw (b .2), ((λ l. absurd (c .if1 .taken l)), (calls-are-runs base, theorem-and-evidence))))))
+    let b = step-short (a .state .now) (c .if1 .taken) (a .f .now) (files (a .file .now)) (length (a .out .now)) in
+    (b .0, (b .1, (rw (b .2), (rw (b .2), ((λ l. absurd (c .if1 .taken l)), (calls-are-runs, theorem-and-evidence))))))
 
 returns-2 : tie.Need-returns-2
 returns-2 c =
-    let k = c .before .before .before .before .before in
-    let a = k .before .before .before .before .before .args in
-    let s = a .state .now in
-    let f = a .f .now in
-    let file = files (a .file .now) in
-    let o = a .out .now in
-    let long = k .if1 .left in
-    let e = c .before .step-number .ensures ∙ of-state s f file (length o) _ (c .before .before .before .parameters-of .ensures) in
-    let b = slice-refused base s long f file (length o) (λ z. c .if2 .taken (e ∙ z)) in
-    let next = ap (decodeState base) (b .1) ∙ decoded-stepped base s long (λ i. k .before .before .before .before .slice-known .given i .fits) f (λ i. k .before .before .before .shared-slice-known .given i .fits) file (length o) in
-    (e ∙ b .0, (b .1, (ap (λ (w : List ℕ). atFront w o) (b .2), (ap length (b .2), ((λ l. next), (calls-are-runs base, theorem-and-evidence))))))
-
-advance-slice-requires : tie.Need-advance-slice-requires
-advance-slice-requires c κs =
-    let a = c .before .before .before .before .before .before .before .before .before .before .before .before .args in
-    let s = a .state .now in (
-      base-fits,
-      c .before .before .before .before .before .before .before .if1 .left,
-      ap (λ (x : Parameters). stepNumber base x (kindOf s) (a .f .now) (files (a .file .now)) (length (a .out .now))) (sym (c .before .before .before .before .before .parameters-of .ensures))
-          ∙ sym (c .before .before .before .step-number .ensures) ∙ c .before .before .if2 .left,
-    )
+    let k = c .before .before .before .before in
+    let m = k .before .before .before .before in
+    let q = m .before .before in
+    let a = q .before .before .before .before .before .args in
+    stepped (a .state .now) (a .f .now) (files (a .file .now)) (a .out .now) 2 (ap counted (m .match .keys1)) (q .if1 .left)
+    (λ i. q .before .before .before .before .slice-known .given i .fits) (λ i. q .before .before .before .shared-slice-known .given i .fits) _ _ _ _ (k .step-slice .ensures)
 
 returns-3 : tie.Need-returns-3
 returns-3 c =
-    let g = c .before .before .before .before .before .before .before in
-    let k = g .before .before .before .before .before in
-    let a = k .before .before .before .before .before .args in
-    let s = a .state .now in
-    let f = a .f .now in
-    let file = files (a .file .now) in
-    let o = a .out .now in
-    let long = k .if1 .left in
-    let e = g .before .step-number .ensures ∙ of-state s f file (length o) _ (g .before .before .before .parameters-of .ensures) in
-    let b = slice-accepted base s long f file (length o) (sym e ∙ g .if2 .left) in
-    let v = c .before .before .before .before .advance-slice .ensures in
-    let next = ap (decodeState base) (v .1 .0 ∙ b .1) ∙ decoded-stepped base s long (λ i. k .before .before .before .before .slice-known .given i .fits) f (λ i. k .before .before .before .shared-slice-known .given i .fits) file (length o) in
-    (b .0, (v .1 .0 ∙ b .1, (v .1 .1 ∙ ap (λ (w : List ℕ). atFront w o) (b .2), (v .0 ∙ ap length (b .2), ((λ l. next), (calls-are-runs base, theorem-and-evidence))))))
+    let k = c .before .before .before .before in
+    let m = k .before .before .before .before in
+    let q = m .before .before in
+    let a = q .before .before .before .before .before .args in
+    stepped (a .state .now) (a .f .now) (files (a .file .now)) (a .out .now) 3 (ap counted (m .match .keys2)) (q .if1 .left)
+    (λ i. q .before .before .before .before .slice-known .given i .fits) (λ i. q .before .before .before .shared-slice-known .given i .fits) _ _ _ _ (k .step-slice2 .ensures)
+
+returns-4 : tie.Need-returns-4
+returns-4 c =
+    let k = c .before .before .before .before in
+    let m = k .before .before .before .before in
+    let q = m .before .before in
+    let a = q .before .before .before .before .before .args in
+    stepped (a .state .now) (a .f .now) (files (a .file .now)) (a .out .now) 1 (counted-other _ (m .match .rest .0 .1) (m .match .rest .1)) (q .if1 .left)
+    (λ i. q .before .before .before .before .slice-known .given i .fits) (λ i. q .before .before .before .shared-slice-known .given i .fits) _ _ _ _ (k .step-slice3 .ensures)
 
 pub pair-step-spec : {M : Type 1} → statement M
 pair-step-spec =
     tie.close
     (tie.spec
     returns
-    (λ c κs. search needs)
     (λ c. search needs)
-    (λ c κs. base-fits)
+    (λ c κs. (fits-2, c .before .before .before .before .before .if1 .left))
+    (λ c κs. (fits-3, c .before .before .before .before .before .if1 .left))
+    (λ c κs. (fits-1, c .before .before .before .before .before .if1 .left))
+    (λ c. search needs)
     (λ c. search needs)
     returns-2
-    advance-slice-requires
     (λ c. search needs)
     (λ c. search needs)
-    returns-3)
+    returns-3
+    (λ c. search needs)
+    (λ c. search needs)
+    returns-4)

@@ -1,0 +1,90 @@
+-- Laws of sets: what holds of each, and the number of a call that names one.
+use Prim.Native.Nat.{ℕ}
+use mathlib.Core.Path.{_≡_, refl, sym, ap, subst, _∙_}
+use mathlib.Core.List.{List}
+use mathlib.Core.Bool.{Bool, true, false, cond, _||_, false≢true}
+use borrow.Author.Tests.{ne-eqb}
+use lib.Dec.{eqb, eqb→eq}
+use Rattle.numbers.specs.Number.{Condition, first, output, reported}
+use Rattle.numbers.specs.Lowest.{Rising}
+use Rattle.numbers.proofs.Numbers.{holds}
+use Rattle.numbers.proofs.Lowest.{first-lowest}
+use Rattle.numbers.specs.Sets.{isSet, counted, named, numberIn, LowestIn}
+
+-- what holds of sets 1, 2 and 3
+pub each : (P : ℕ → Type 0) → P 1 → P 2 → P 3 → (set : ℕ) → isSet set ≡ true → P set
+each P one two three set e = pick (eqb set 1) refl (eqb set 2) refl (eqb set 3) refl e
+  where
+    at : (k : ℕ) → eqb set k ≡ true → P k → P set
+    at k h p = subst P (sym (eqb→eq set k (holds (eqb set k) h))) p
+
+    pick : (a : Bool) → eqb set 1 ≡ a → (b : Bool) → eqb set 2 ≡ b → (c : Bool) → eqb set 3 ≡ c → (a || (b || c)) ≡ true → P set
+    pick true h b i c j e = at 1 h one
+    pick false h true i c j e = at 2 i two
+    pick false h false i true j e = at 3 j three
+    pick false h false i false j e = absurd (false≢true e)
+
+-- a number that is none of them
+pub no-set : (set : ℕ) → (set ≡ 1 → ⊥) → (set ≡ 2 → ⊥) → (set ≡ 3 → ⊥) → isSet set ≡ false
+no-set set a b c = rw (ne-eqb set 1 a, ne-eqb set 2 b, ne-eqb set 3 c)
+
+-- what a state counts as is a set, and a set counts as itself
+pub counted-set : (set : ℕ) → isSet (counted set) ≡ true
+counted-set set = pick (isSet set) refl
+  where
+    pick : (b : Bool) → isSet set ≡ b → isSet (cond b set 1) ≡ true
+    pick true e = e
+    pick false e = refl
+
+pub counted-is : (set : ℕ) → isSet set ≡ true → counted set ≡ set
+counted-is set e = rw e
+
+-- what is neither 2 nor 3 counts as 1
+pub counted-other : (set : ℕ) → (set ≡ 2 → ⊥) → (set ≡ 3 → ⊥) → counted set ≡ 1
+counted-other set a b = rw (ne-eqb set 2 a, ne-eqb set 3 b) (pick (eqb set 1) refl)
+  where
+    pick : (c : Bool) → eqb set 1 ≡ c → cond (c || (false || false)) set 1 ≡ 1
+    pick true e = eqb→eq set 1 (holds (eqb set 1) e)
+    pick false e = refl
+
+module _ (set : ℕ) (cs : List Condition) where
+  -- of a set, all other conditions decide
+  pub number-in : isSet set ≡ true → numberIn set cs ≡ first cs
+  unfolding numberIn first
+  number-in e = rw e
+
+  -- and of none 14
+  pub number-none : isSet set ≡ false → numberIn set cs ≡ 14
+  unfolding numberIn first
+  number-none e = rw e
+
+  pub lowest-in : Rising cs → LowestIn set cs (numberIn set cs)
+  lowest-in r = record { none = number-none; lowest = λ e. rw (number-in e) (first-lowest r) }
+
+-- the number that set k's conditions give, where k is the set that was named
+pub set-number : {set k : ℕ} → set ≡ k → isSet k ≡ true → (cs : ℕ → List Condition) → first (cs k) ≡ numberIn set (cs set)
+set-number {set} {k} e i cs = sym (number-in k (cs k) i) ∙ ap (λ (j : ℕ). numberIn j (cs j)) (sym e)
+
+-- ---- calls that name a set, by what is called for set k
+
+module _ {set k : ℕ} (e : set ≡ k) (i : isSet k ≡ true) (cs : ℕ → List Condition) (bytes : ℕ → List ℕ) (old : List ℕ) {r : ℕ} {new : List ℕ} where
+  -- with an output slice
+  pub called-in : (r ≡ first (cs k)) × (new ≡ output r (bytes k) old) → (r ≡ numberIn set (cs set)) × (new ≡ output r (bytes set) old)
+  called-in h = (h .0 ∙ set-number e i cs, h .1 ∙ ap (λ (j : ℕ). output r (bytes j) old) (sym e))
+
+  -- and a count
+  pub counted-in : (count : ℕ → ℕ) {m : ℕ} → (r ≡ first (cs k)) × ((m ≡ reported r (count k)) × (new ≡ output r (bytes k) old))
+      → (r ≡ numberIn set (cs set)) × ((m ≡ reported r (count set)) × (new ≡ output r (bytes set) old))
+  counted-in count h =
+      let all = called-in (h .0, h .1 .1) in
+      (all .0, (h .1 .0 ∙ ap (λ (j : ℕ). reported r (count j)) (sym e), all .1))
+
+-- where there is no such set
+module _ (set : ℕ) (cs : List Condition) (bytes old : List ℕ) (a : set ≡ 1 → ⊥) (b : set ≡ 2 → ⊥) (c : set ≡ 3 → ⊥) where
+  pub called-none : (14 ≡ numberIn set cs) × (old ≡ output 14 bytes old)
+  unfolding output
+  called-none = (sym (number-none set cs (no-set set a b c)), refl)
+
+  pub counted-none : (count : ℕ) {r m : ℕ} → (r ≡ 14) × (m ≡ 0) → (r ≡ numberIn set cs) × ((m ≡ reported r count) × (old ≡ output r bytes old))
+  unfolding output reported
+  counted-none count h = (h .0 ∙ called-none .0, (h .1 ∙ rw (h .0), rw (h .0)))

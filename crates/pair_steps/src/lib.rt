@@ -1,0 +1,2 @@
+// A step of the unit in a slice.
+pub mod step;
