@@ -34,19 +34,20 @@
  *
  * STACK. What each call uses at most in any set, arguments and return address included, in KiB, rounded up:
  *
- *     pair_matrix_check   0.5     pair_evaluate      1.1     pair_begin             0.2
+ *     pair_matrix_check   0.5     pair_evaluate      2.8     pair_begin             0.2
  *     pair_matrix_read    0.5     pair_sample        0.7     pair_step, with deal   0.5
- *     pair_matrix_write   1.2     pair_deal          1.1     .. with open           1.5
- *     pair_join           0.3     pair_deal_source   1.6     .. with mask           1.4
- *                                                            pair_run               8.3
+ *     pair_matrix_write   1.2     pair_deal          2.8     .. with open           3.2
+ *     pair_join           0.3     pair_deal_source   3.3     .. with mask           1.4
+ *                                                            pair_run               9.3
  *
- * A program that looks for memcpy at its first use (lazy binding) takes about 3.1 KiB more in the first call
- * that copies, at most 11.4 in all; linked with -z now it does not. Measured, not proved: the library was made
- * by the toolchain rattle-kit-5b, its callers by GCC 12 and Clang 14. tests/c/stack.c measures the table again.
+ * A program that looks for memcpy and memset at their first use (lazy binding) takes about 3.1 KiB below where
+ * they are called, so pair_run 9.7 in all where it is the first call; linked with -z now it does not. Measured,
+ * not proved: the library was made by the toolchain rattle-kit-5b, its callers by GCC 12 and Clang 14.
+ * tests/c/stack.c measures the table again.
  *
  * Calls do not clear the stack that they used, and copies of secrets stay there until something else is
- * written over them: after pair_run some of each half, after pair_deal_source the tape, after
- * pair_evaluate and the steps with an open and a mask frame up to 96 bytes. A host overwrites them with
+ * written over them: after pair_run some of each half, after pair_deal_source the tape, after pair_evaluate
+ * the label, after the steps with an open and a mask frame up to 64 bytes. A host overwrites them with
  * pair_wipe_stack (service_pair_text.h), called from the function that made the calls and after them; then
  * none was found. What it does not reach are vector registers, which keep pieces until other code uses them,
  * and what a signal handler has put further down. */

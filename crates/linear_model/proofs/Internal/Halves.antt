@@ -14,14 +14,14 @@ use Rattle.linear_model.specs.Tables.{from, sum, every}
 use Rattle.linear_model.specs.Bits.{bitAt, bit, fromBits}
 use Rattle.linear_model.specs.Products.{circulantProduct}
 use Rattle.linear_model.specs.Internal.Words.{setWord}
-use Rattle.linear_model.specs.Internal.Rotations.{Words, Overwritten, wordOf, hornerColumn, horner, Multiplied, wordTerm, wordProduct, halvesBit}
+use Rattle.linear_model.specs.Internal.Rotations.{Words, Overwritten, around, wordOf, hornerColumn, horner, Multiplied, wordTerm, wordProduct, halvesBit}
 use Rattle.linear_model.proofs.Tables.{every-at, same₁}
 use Rattle.linear_model.proofs.NumberBits.{from-bits-none, from-bits-ext, from-bits-lt, from-bits-of, bit-at-lt, bit-at-mod, bit-at-from-bits, bit-at-xor, bit-at-and}
 use Rattle.linear_model.proofs.Sums.{sum-more, sum-split, sum-ext}
 use Rattle.linear_model.proofs.WordBits.{or-part, window-is}
 use Rattle.linear_model.proofs.Filling.{filling-none}
 use Rattle.linear_model.proofs.Internal.Overwriting.{overwritten-none, overwritten-more, word-stored, words-stored}
-use Rattle.linear_model.proofs.Internal.Rotations.{around, factors, product-packed}
+use Rattle.linear_model.proofs.Internal.Rotations.{words-twice, rows-first, factors, product-packed}
 
 -- ---- masks
 
@@ -148,7 +148,7 @@ halves-product k x {s} {t} {a} {b} es et ea eb =
 
 -- ---- one word of the key and the label
 
-pub word-multiplied : (k l d : List ℕ) (r : ℕ) → 0 < length d → r ≡ fromBits 64 (wordProduct (getD k 0 0) (getD l 0 0)) → Multiplied 1 k l (set d 0 r)
+pub word-multiplied : (k l d : List ℕ) (r : ℕ) → 0 < length d → r ≡ fromBits 64 (wordProduct (getD k 0 0) (getD l 0 0)) → Multiplied 1 1 k l (set d 0 r)
 unfolding sum
 word-multiplied k l d r hd e key label fs j h =
     let o : j ≡ 0 = omega arith in
@@ -157,6 +157,11 @@ word-multiplied k l d r hd e key label fs j h =
     ∙ from-bits-ext 64 (wordProduct (getD k 0 0) (getD l 0 0)) (from (64 * 0) f)
     (λ i t. ap (λ (n : ℕ). n % 2) (sum-ext 64 (wordTerm (getD k 0 0) (getD l 0 0) i) (hornerColumn 1 key label 0 (64 * 0 + i)) (term i t))))
   where
+    first : getD l 0 0 ≡ wordOf label 0
+    first =
+        fs .labelRows 0 (lit< tt) 0 (lit< tt)
+        ∙ from-bits-ext 64 (from (64 * 0) (from 0 label)) (from (64 * 0) label) (λ k _. ap label (zero-add (64 * 0 + k)))
+
     bit-of : (f : ℕ → ℕ) (y n : ℕ) → ((i : ℕ) → f i < 2) → y ≡ fromBits 64 (from (64 * 0) f) → n < 64 → bitAt y n ≡ f n
     bit-of f y n b e h = ap (λ (z : ℕ). bitAt z n) e ∙ bit-at-from-bits 64 (from (64 * 0) f) (λ i. b (64 * 0 + i)) n h ∙ ap f (zero-add n)
 
@@ -173,7 +178,7 @@ word-multiplied k l d r hd e key label fs j h =
         let o : q ≡ 64 * 0 + (0 + q) = omega arith in
         let o′ : i + q ≡ 64 * 0 + i + (64 * 0 + q) = omega arith in
         ap₂ _*_ (bit-of key (getD k 0 0) q (fs .keyBits) (fs .keyWords 0 (lit< tt)) s ∙ ap key o)
-        (bit-of label (getD l 0 0) ((i + q) % 64) (fs .labelBits) (fs .labelWords 0 (lit< tt)) (omega arith) ∙ round (i + q) (omega arith) (decLt (i + q) 64) ∙ ap label o′)
+        (bit-of label (getD l 0 0) ((i + q) % 64) (fs .labelBits) first (omega arith) ∙ round (i + q) (omega arith) (decLt (i + q) 64) ∙ ap label o′)
         ∙ sym (zero-add _)
 
 -- eight bytes are the product where its word is stored
@@ -184,5 +189,5 @@ word-product-stored key x s {k} {y} {r} h ek ey er =
     let first : Overwritten (wordOf (bit x)) 0 1 (0 ∷ 0 ∷ []) (y ∷ 0 ∷ []) = overwritten-more 0 overwritten-none refl (lit< tt) ey in
     let second : Overwritten (wordOf (bit x)) 1 1 (y ∷ 0 ∷ []) (y ∷ y ∷ []) = overwritten-more 1 overwritten-none refl (lit< tt) ey in
     let f = horner 1 (bit key) (around 8 x) 0 64 in
-    let words : Words f 1 (r ∷ []) = word-multiplied (k ∷ []) (y ∷ y ∷ []) (0 ∷ []) r (lit< tt) er (bit key) (around 8 x) (factors 1 key x one first second) in
+    let words : Words f 1 (r ∷ []) = word-multiplied (k ∷ []) (y ∷ y ∷ []) (0 ∷ []) r (lit< tt) er (bit key) (around 8 x) (factors 1 1 key x one (rows-first (around 8 x) 2 (y ∷ y ∷ []) (words-twice 1 x first second))) in
     words-stored 8 f h (word-stored 1 f (r ∷ []) 0 (λ i. omega arith) words (lit< tt) h filling-none) (omega arith) ∙ product-packed 1 key x

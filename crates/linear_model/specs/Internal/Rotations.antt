@@ -1,11 +1,11 @@
 -- The circulant product by words: lists of words that loops overwrite, and the sums that they come to.
-use Prim.Native.Nat.{ℕ, _+_, _*_, _/_, _%_, _^_, _<_, _≤_}
+use Prim.Native.Nat.{ℕ, _+_, _-_, _*_, _/_, _%_, _^_, _<_, _≤_}
 use mathlib.Core.Path.{_≡_}
 use mathlib.Core.List.{List}
 use lib.Bits.{bitXor, bitAnd, bitOr}
 use lib.ListN.{length, getD, set}
 use Rattle.linear_model.specs.Tables.{from, sum}
-use Rattle.linear_model.specs.Bits.{bitAt, fromBits}
+use Rattle.linear_model.specs.Bits.{bitAt, bit, fromBits}
 
 -- all f i are bits
 abbrev pub Bits : (ℕ → ℕ) → Type 0
@@ -30,51 +30,79 @@ wordOf f j = fromBits 64 (from (64 * j) f)
 abbrev pub closed : ℕ → List ℕ → List ℕ
 closed w d = set d w (getD d 0 0)
 
--- element j shifted right by one, with the lowest bit of the next shifted in at the top
-abbrev pub rotatedAt : List ℕ → ℕ → ℕ
-rotatedAt d j = bitOr (getD d j 0 / 2 ^ 1) (getD d (j + 1) 0 * 2 ^ 63 % 2 ^ 64)
+-- element j shifted right by n, with the lowest n bits of the next shifted in at the top
+abbrev pub rotatedAt : ℕ → List ℕ → ℕ → ℕ
+rotatedAt n d j = bitOr (getD d j 0 / 2 ^ n) (getD d (j + 1) 0 * 2 ^ (64 - n) % 2 ^ 64)
 
--- element j, to which element a + j of l is added under the mask m
+-- element j, to which element o + j of l is added under the mask m
 abbrev pub addedAt : List ℕ → List ℕ → ℕ → ℕ → ℕ → ℕ
-addedAt d l a m j = bitXor (getD d j 0) (bitAnd m (getD l (a + j) 0))
+addedAt d l o m j = bitXor (getD d j 0) (bitAnd m (getD l (o + j) 0))
 
 -- bit q of element a of k, in all places
 abbrev pub maskAt : List ℕ → ℕ → ℕ → ℕ
 maskAt k q a = bitAt (getD k a 0) q * 0xffffffffffffffff
 
--- bit i of the words of l from a on, under element a of m
-abbrev pub maskTerm : List ℕ → List ℕ → ℕ → ℕ → ℕ
-maskTerm m l i a = bitAt (getD m a 0) (i % 64) * bitAt (getD l (a + i / 64) 0) (i % 64)
+-- m has the masks of bits q + r of k's first w elements, r below p: those of r from element 8r on
+abbrev pub Masks : List ℕ → ℕ → ℕ → ℕ → List ℕ → Type 0
+Masks k q w p m = (r : ℕ) → r < p → (a : ℕ) → a < w → getD m (8 * r + a) 0 ≡ maskAt k (q + r) a
+
+-- bit i of the words of l from 17r + a on, under element 8r + a of m
+abbrev pub maskTerm : List ℕ → List ℕ → ℕ → ℕ → ℕ → ℕ
+maskTerm m l r i a = bitAt (getD m (8 * r + a) 0) (i % 64) * bitAt (getD l (17 * r + a + i / 64) 0) (i % 64)
 
 -- bit i of f, to which these are added for a below n
-abbrev pub added : ℕ → (ℕ → ℕ) → List ℕ → List ℕ → ℕ → ℕ
-added n f m l i = (f i + sum n (maskTerm m l i)) % 2
+abbrev pub added : ℕ → (ℕ → ℕ) → List ℕ → List ℕ → ℕ → ℕ → ℕ
+added n f m l r i = (f i + sum n (maskTerm m l r i)) % 2
 
--- d has become acc, to which the words of l are added under the masks m
-pub record Added (w : ℕ) (m l d acc : List ℕ) : Type 0 where
+-- d has become acc, to which the words of l from 17r on are added under the masks from 8r on
+pub record Added (w : ℕ) (m l : List ℕ) (r : ℕ) (d acc : List ℕ) : Type 0 where
   pub long : length acc ≡ 9
-  pub words : ((a : ℕ) → a < w → getD m a 0 < 2 ^ 64) → (f : ℕ → ℕ) → Bits f → Words f w d → Words (added w f m l) w acc
+  pub words : ((a : ℕ) → a < w → getD m (8 * r + a) 0 < 2 ^ 64) → (f : ℕ → ℕ) → Bits f → Words f w d → Words (added w f m l r) w acc
 
--- bit i of the words of l from a on, times bit q of element a of k
-abbrev pub keyTerm : List ℕ → List ℕ → ℕ → ℕ → ℕ → ℕ
-keyTerm k l q i a = bitAt (getD k a 0) q * bitAt (getD l (a + i / 64) 0) (i % 64)
+-- bit i of f, to which these are added for each r below p
+abbrev pub addedRow : ℕ → List ℕ → List ℕ → ℕ → ℕ → ℕ
+addedRow w m l i r = sum w (maskTerm m l r i)
 
--- bit i of f rotated right by one, to which these are added for a below w
-abbrev pub stepped : ℕ → (ℕ → ℕ) → List ℕ → List ℕ → ℕ → ℕ → ℕ
-stepped w f k l q i = (f (1 + i) + sum w (keyTerm k l q i)) % 2
+abbrev pub addedRows : ℕ → ℕ → (ℕ → ℕ) → List ℕ → List ℕ → ℕ → ℕ
+addedRows w p f m l i = (f i + sum p (addedRow w m l i)) % 2
+
+-- d has become acc, to which all of these are added
+pub record AddedRows (w p : ℕ) (m l d acc : List ℕ) : Type 0 where
+  pub long : length acc ≡ 9
+  pub words : ((r : ℕ) → r < p → (a : ℕ) → a < w → getD m (8 * r + a) 0 < 2 ^ 64) → (f : ℕ → ℕ) → Bits f → Words f w d
+      → Words (addedRows w p f m l) w acc
+
+-- bit i of the words of l from 17r + a on, times bit q + r of element a of k, and these added up for all a below w
+abbrev pub keyTerm : List ℕ → List ℕ → ℕ → ℕ → ℕ → ℕ → ℕ
+keyTerm k l q i r a = bitAt (getD k a 0) (q + r) * bitAt (getD l (17 * r + a + i / 64) 0) (i % 64)
+
+abbrev pub keyRow : ℕ → List ℕ → List ℕ → ℕ → ℕ → ℕ → ℕ
+keyRow w k l q i r = sum w (keyTerm k l q i r)
+
+-- bit i of f rotated right by p, to which these are added for each r below p
+abbrev pub stepped : ℕ → ℕ → (ℕ → ℕ) → List ℕ → List ℕ → ℕ → ℕ → ℕ
+stepped w p f k l q i = (f (p + i) + sum p (keyRow w k l q i)) % 2
 
 -- d has become acc: the words of bits that come round after w words are rotated, and these are added
-pub record Stepped (w : ℕ) (k l : List ℕ) (q : ℕ) (d acc : List ℕ) : Type 0 where
+pub record Stepped (w p : ℕ) (k l : List ℕ) (q : ℕ) (d acc : List ℕ) : Type 0 where
   pub long : length acc ≡ 9
-  pub words : (f : ℕ → ℕ) → Bits f → ((i : ℕ) → f (i + 64 * w) ≡ f i) → Words f w d → Words (stepped w f k l q) w acc
+  pub words : (f : ℕ → ℕ) → Bits f → ((i : ℕ) → f (i + 64 * w) ≡ f i) → Words f w d → Words (stepped w p f k l q) w acc
 
--- k has the words of the key's bits, and l, twice over, those of the label's, which come round after w words
-pub record Factors (w : ℕ) (key label : ℕ → ℕ) (k l : List ℕ) : Type 0 where
+-- bit j of x, counted around its 8n bits
+abbrev pub around : ℕ → List ℕ → ℕ → ℕ
+around n x j = bit x (j % (8 * n))
+
+-- l has n words of the bits f rotated right by r, for each r below p: those of r from element 17r on
+abbrev pub Rows : (ℕ → ℕ) → ℕ → ℕ → List ℕ → Type 0
+Rows f n p l = (r : ℕ) → r < p → (j : ℕ) → j < n → getD l (17 * r + j) 0 ≡ wordOf (from r f) j
+
+-- k has the words of the key's bits, and l, twice over, those of the label's, which come round after w words, and of its rotations
+pub record Factors (w p : ℕ) (key label : ℕ → ℕ) (k l : List ℕ) : Type 0 where
   pub keyBits : Bits key
   pub labelBits : Bits label
   pub again : (j : ℕ) → label (j + 64 * w) ≡ label j
   pub keyWords : Words key w k
-  pub labelWords : Words label (2 * w) l
+  pub labelRows : Rows label (2 * w) p l
 
 -- the key's bit 64a + q + r times the label's bit i + 64a + r, and these added up for all words a of the key
 abbrev pub hornerTerm : (ℕ → ℕ) → (ℕ → ℕ) → ℕ → ℕ → ℕ → ℕ → ℕ
@@ -88,8 +116,8 @@ abbrev pub horner : ℕ → (ℕ → ℕ) → (ℕ → ℕ) → ℕ → ℕ → 
 horner w key label q p i = sum p (hornerColumn w key label q i) % 2
 
 -- acc has the words of the product
-abbrev pub Multiplied : ℕ → List ℕ → List ℕ → List ℕ → Type 0
-Multiplied w k l acc = (key label : ℕ → ℕ) → Factors w key label k l → Words (horner w key label 0 64) w acc
+abbrev pub Multiplied : ℕ → ℕ → List ℕ → List ℕ → List ℕ → Type 0
+Multiplied w p k l acc = (key label : ℕ → ℕ) → Factors w p key label k l → Words (horner w key label 0 64) w acc
 
 -- ---- one word
 

@@ -10,10 +10,10 @@ use Rattle.linear_rotations.proofs.rotations.add_word.Statement.{statem
 use Rattle.linear_rotations.proofs.rotations.add_word.Tie as tie
 
 abbrev Inv-loop : tie.InvT-loop
-Inv-loop acc₀ label a w m s₀ acc s = (s ≤ w) × Overwritten (addedAt acc₀ label a m) 0 s acc₀ acc
+Inv-loop acc₀ label o w m s₀ acc s = (s ≤ w) × Overwritten (addedAt acc₀ label o m) 0 s acc₀ acc
 
 abbrev μ-loop : tie.MeasureT-loop
-μ-loop acc₀ label a w m s₀ acc s = w - s
+μ-loop acc₀ label o w m s₀ acc s = w - s
 
 loop-again : tie.Need-loop-again Inv-loop μ-loop
 loop-again c =
@@ -22,7 +22,7 @@ loop-again c =
     let s = l .loop .s in
     let p = l .loop .inv .1 in
     let e : getD (l .loop .acc) s 0 ≡ getD (a .acc .now) s 0 = p .after s (omega arith) in
-    (omega arith, overwritten-more s p (omega arith) (omega arith) (c .masked .ensures ∙ ap (λ (y : ℕ). bitXor y (bitAnd (a .m) (getD (a .label .now) (a .a + s) 0))) e))
+    (omega arith, overwritten-more s p (omega arith) (omega arith) (c .masked .ensures ∙ ap (λ (y : ℕ). bitXor y (bitAnd (a .m) (getD (a .label .now) (a .o + s) 0))) e))
 
 returns : tie.Need-returns Inv-loop μ-loop
 returns c =

@@ -1,6 +1,6 @@
 -- `linear_rotations::rotations::masks` meets its contract. The invariant of its loop: a masks are stored.
-use mathlib.Core.Path.{_≡_}
-use Prim.Native.Nat.{_-_, _≤_}
+use mathlib.Core.Path.{_≡_, refl}
+use Prim.Native.Nat.{_+_, _-_, _≤_}
 use native.Mathlib.Omega.{arith}
 use Rattle.linear_model.specs.Internal.Rotations.{Overwritten, maskAt}
 use Rattle.linear_model.proofs.Internal.Overwriting.{overwritten-none, overwritten-more}
@@ -8,15 +8,15 @@ use Rattle.linear_rotations.proofs.rotations.masks.Statement.{statement
 use Rattle.linear_rotations.proofs.rotations.masks.Tie as tie
 
 abbrev Inv-loop : tie.InvT-loop
-Inv-loop key to₀ q w a₀ to a = (a ≤ w) × Overwritten (maskAt key q) 0 a to₀ to
+Inv-loop key to₀ o q w a₀ to a = (a ≤ w) × Overwritten (maskAt key q) o a to₀ to
 
 abbrev μ-loop : tie.MeasureT-loop
-μ-loop key to₀ q w a₀ to a = w - a
+μ-loop key to₀ o q w a₀ to a = w - a
 
 loop-again : tie.Need-loop-again Inv-loop μ-loop
 loop-again c =
-    let l = c .before .before .before .loop in
-    (omega arith, overwritten-more (l .a) (l .inv .1) (omega arith) (omega arith) (c .mask .ensures))
+    let l = c .before .before .before in
+    (omega arith, overwritten-more (l .before .args .o + l .loop .a) (l .loop .inv .1) refl (omega arith) (c .mask .ensures))
 
 returns : tie.Need-returns Inv-loop μ-loop
 returns c =
@@ -35,6 +35,7 @@ masks-spec =
     (λ c. omega arith)
     (λ c. omega arith)
     (λ c κs. omega arith)
+    (λ c. omega arith)
     (λ c. omega arith)
     (λ c. omega arith)
     (λ c. omega arith)

@@ -17,14 +17,14 @@ abbrev μ-loop : tie.MeasureT-loop
 loop-again : tie.Need-loop-again Inv-loop μ-loop
 loop-again c =
     let l = c .before .before in
-    let a = l .before .before .args in
+    let a = l .before .before .before .args in
     let e : 8 * (8 * l .loop .j) ≡ 64 * l .loop .j = omega arith in
     (omega arith, overwritten-more (a .o + l .loop .j) (l .loop .inv .1) refl (omega arith) (rw e at (c .word-at .ensures)))
 
 returns : tie.Need-returns Inv-loop μ-loop
 returns c =
     let l = c .before in
-    let e : l .loop .j ≡ l .before .before .args .w = omega arith in
+    let e : l .loop .j ≡ l .before .before .before .args .w = omega arith in
     rw e at (l .loop .inv .1)
 
 pub read-spec : {M : Type 1} → statement M
@@ -42,4 +42,5 @@ read-spec =
     (λ c. omega arith)
     (λ c. omega arith)
     loop-again
+    (λ c. c .before .loop .inv .1 .long)
     returns)

@@ -10,10 +10,10 @@ use Rattle.linear_rotations.proofs.rotations.rotate.Statement.{statemen
 use Rattle.linear_rotations.proofs.rotations.rotate.Tie as tie
 
 abbrev Inv-loop : tie.InvT-loop
-Inv-loop acc₀ w s₀ acc s = (s ≤ w) × Overwritten (rotatedAt acc₀) 0 s acc₀ acc
+Inv-loop acc₀ w n s₀ acc s = (s ≤ w) × Overwritten (rotatedAt n acc₀) 0 s acc₀ acc
 
 abbrev μ-loop : tie.MeasureT-loop
-μ-loop acc₀ w s₀ acc s = w - s
+μ-loop acc₀ w n s₀ acc s = w - s
 
 loop-again : tie.Need-loop-again Inv-loop μ-loop
 loop-again c =
@@ -24,7 +24,7 @@ loop-again c =
     let p = l .loop .inv .1 in
     let e : getD (l .loop .acc) s 0 ≡ getD d s 0 = p .after s (omega arith) in
     let e′ : getD (l .loop .acc) (s + 1) 0 ≡ getD d (s + 1) 0 = p .after (s + 1) (omega arith) in
-    (omega arith, overwritten-more s p (omega arith) (simp length-set (omega arith)) (c .funnel-shift .ensures ∙ ap₂ (λ (x y : ℕ). bitOr (x / 2 ^ 1) (y * 2 ^ 63 % 2 ^ 64)) e e′))
+    (omega arith, overwritten-more s p (omega arith) (simp length-set (omega arith)) (c .funnel-shift .ensures ∙ ap₂ (λ (x y : ℕ). bitOr (x / 2 ^ a .n) (y * 2 ^ (64 - a .n) % 2 ^ 64)) e e′))
 
 returns : tie.Need-returns Inv-loop μ-loop
 returns c =

@@ -7,10 +7,10 @@ use Rattle.linear_model.proofs.Internal.Rotations.{words-stepped}
 use Rattle.linear_rotations.proofs.rotations.step.Statement.{statement}
 use Rattle.linear_rotations.proofs.rotations.step.Tie as tie
 
-add-words-requires : tie.Need-add-words-requires
-add-words-requires c κs =
+add-rows-requires : tie.Need-add-rows-requires
+add-rows-requires c κs =
     let h = c .before .before .before .before .before .before .pre in
-    (h .2, c .before .before .rotate .ensures .long ∙ simp length-set (h .3))
+    (h .1, h .4, c .before .before .rotate .ensures .long ∙ simp length-set (h .5))
 
 returns : tie.Need-returns
 returns c =
@@ -19,13 +19,14 @@ returns c =
     let b = m .before .before in
     let a = b .args in
     let h = b .pre in
-    words-stepped (a .w) (a .key .now) (a .label .now) (a .q) (h .1) (omega (arith, h .2, h .3)) (m .masks .ensures) (r .rotate .ensures) (c .add-words .ensures)
+    words-stepped (a .w) (a .n) (a .key .now) (a .label .now) (a .q) (omega (arith, h .1)) (h .3) (omega (arith, h .4, h .5)) (m .masks-of-places .ensures) (r .rotate .ensures)
+    (c .add-rows .ensures)
 
 pub step-spec : {M : Type 1} → statement M
 step-spec =
     tie.close
     (tie.spec
     (λ c κs. search needs)
-    (λ c κs. search needs)
-    add-words-requires
+    (λ c κs. omega arith)
+    add-rows-requires
     returns)
