@@ -37,7 +37,7 @@
  *     pair_matrix_check   0.5     pair_evaluate      2.8     pair_begin             0.2
  *     pair_matrix_read    0.5     pair_sample        0.7     pair_step, with deal   0.5
  *     pair_matrix_write   1.2     pair_deal          2.8     .. with open           3.2
- *     pair_join           0.3     pair_deal_source   3.3     .. with mask           1.4
+ *     pair_join           0.3     pair_deal_source   3.3     .. with mask           1.2
  *                                                            pair_run               9.3
  *
  * A program that looks for memcpy and memset at their first use (lazy binding) takes about 3.1 KiB below where

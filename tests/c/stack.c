@@ -238,7 +238,7 @@ static struct call {
     {"pair_begin", begin, 2, NULL, 0},
     {"pair_step, deal", step_deal, 5, states[0], 0},
     {"pair_step, open", step_open, 32, states[1], 0},
-    {"pair_step, mask", step_mask, 14, states[2], 0},
+    {"pair_step, mask", step_mask, 12, states[2], 0},
     {"pair_join", join, 3, NULL, 0},
     {"pair_run", whole_run, 93, NULL, 0},
 };

@@ -74,8 +74,19 @@ fn unfit_words(v: &[u8], m: usize, t: usize) -> u64
     seen
 }
 
-// Whether no trit before place `t` has both bits set, for vectors of any length. The sizes in use are written out, so that each gets code
-// of its own.
+// Whether no trit before place `t` has both bits set. A plane has `m` bytes: where that is a literal, this gets code of its own.
+pub fn planes_fit(v: &[u8], m: usize, t: usize) -> bool
+    requires { ⌜ m ≡ length (now v) / 2 ⌝ }
+    ensures { λ r. ⌜ r ≡ fitTrits (length (now (v .entry)) / 2) (min t (8 * (length (now (v .entry)) / 2))) (now (v .entry)) ⌝ }
+{
+    if 8 <= m {
+        return unfit_words(v, m, t) == 0;
+    }
+    unfit_bytes(v, m, t) == 0
+}
+
+// The same for vectors of any length, with the sizes in use written out. They do not go by `planes_fit`, since it would then be called and
+// not compiled into its callers.
 fn any_trits_fit(v: &[u8], t: usize) -> bool
     ensures { λ r. ⌜ r ≡ fitTrits (length (now (v .entry)) / 2) (min t (8 * (length (now (v .entry)) / 2))) (now (v .entry)) ⌝ }
 {

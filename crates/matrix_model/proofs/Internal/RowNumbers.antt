@@ -69,12 +69,12 @@ module _ {layout : Layout} (fits : Fits layout) {set : List ℕ} {i k : ℕ} {pa
       (λ j l. ap not (sym (zero-take m (drop (2 * m * (i + j)) set)) ∙ ap (zeroTrits m 0) (same-row j l) ∙ zero-take m (drop (2 * m * j) part)))
 
 -- the number of one row, by the tests of the slice that has it
-pub one-row : (layout : Layout) → Fits layout → (row : List ℕ) (f z : Bool) → length row ≡ layout .rowBytes
-    → f ≡ fitTrits (length row / 2) (min (4 * layout .rowBytes) (8 * (length row / 2))) row
+pub one-row : (layout : Layout) (row : List ℕ) (t : ℕ) (f z : Bool) → length row ≡ layout .rowBytes → 8 * rowPlaneOf layout ≤ t
+    → f ≡ fitTrits (length row / 2) (min t (8 * (length row / 2))) row
     → z ≡ zeroTrits (length row / 2) 0 row → judged f (not z) ≡ rowsNumber layout 1 row
 unfolding rowsNumber first every
-one-row layout fits row f z e hf hz =
-    let m : min (4 * layout .rowBytes) (8 * rowPlaneOf layout) ≡ 8 * rowPlaneOf layout = omega (arith, planes layout fits) in
+one-row layout row t f z e l hf hz =
+    let m : min t (8 * rowPlaneOf layout) ≡ 8 * rowPlaneOf layout = omega arith in
     let none : 2 * rowPlaneOf layout * 0 ≡ 0 = omega arith in
     rw (hf, hz, e, m, none)
 

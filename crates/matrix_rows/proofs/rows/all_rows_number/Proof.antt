@@ -66,7 +66,7 @@ returns : tie.Need-returns Inv-loop μ-loop
 unfolding first rowFaultsOf badTritOf zeroRowOf rowsNumber
 returns c =
     let r = c .before .before in
-    judging-unfit (r .before .before .before .before .before .before .pre .0) (block r) (before r) (c .before .rows-number .ensures) _ (omega (arith, next r)) (c .if1 .taken)
+    judging-unfit (r .before .before .before .before .before .before .pre .0) (block r) (before r) (c .before .block-number .ensures) _ (omega (arith, next r)) (c .if1 .taken)
 
 loop-again : tie.Need-loop-again Inv-loop μ-loop
 loop-again c =
@@ -74,8 +74,8 @@ loop-again c =
     let r = f .before in
     let fits = r .before .before .before .before .before .before .pre .0 in (
       omega arith,
-      rw (next r) (⊎-elim (λ w. judging-found fits (block r) (before r) (f .rows-number .ensures) (w .1) (c .before .if1 .left) (w .0 .taken))
-          (λ w. judging-kept fits (block r) (before r) (f .rows-number .ensures) (w .1) (c .before .if1 .left) (w .0 .left)) (c .if2 .came)),
+      rw (next r) (⊎-elim (λ w. judging-found fits (block r) (before r) (f .block-number .ensures) (w .1) (c .before .if1 .left) (w .0 .taken))
+          (λ w. judging-kept fits (block r) (before r) (f .block-number .ensures) (w .1) (c .before .if1 .left) (w .0 .left)) (c .if2 .came)),
     )
 
 returns-2 : tie.Need-returns-2 Inv-loop μ-loop

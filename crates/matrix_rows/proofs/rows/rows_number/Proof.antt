@@ -10,10 +10,10 @@ use Rattle.matrix_rows.proofs.rows.rows_number.Statement.{statement}
 use Rattle.matrix_rows.proofs.rows.rows_number.Tie as tie
 
 abbrev Inv-loop : tie.InvT-loop
-Inv-loop layout rows n number₀ i₀ number i = (i ≤ n) × Judging (layoutIn layout) rows i number
+Inv-loop layout rows m n number₀ i₀ number i = (i ≤ n) × Judging (layoutIn layout) rows i number
 
 abbrev μ-loop : tie.MeasureT-loop
-μ-loop layout rows n number₀ i₀ number i = n - i
+μ-loop layout rows m n number₀ i₀ number i = n - i
 
 -- row i is within the rows
 within : (c : tie.In-loop Inv-loop μ-loop)
@@ -34,7 +34,9 @@ row c =
     among-part (l .loop .i) 1 (within (c .before)) (one-part (layoutIn (a .layout) .rowBytes) (l .loop .i) (a .rows .now) (c .row-of .ensures))
 
 row-number-requires : tie.Need-row-number-requires Inv-loop μ-loop
-row-number-requires c κs = (c .before .before .before .before .pre .0, omega (arith, row c .long))
+row-number-requires c κs =
+    let a = c .before .before .before .before in
+    (a .pre .0, omega (arith, row c .long), a .pre .2)
 
 returns : tie.Need-returns Inv-loop μ-loop
 returns c =
