@@ -2,7 +2,7 @@
 use mathlib.Core.Path.{_≡_, refl, sym, ap, _∙_}
 use mathlib.Core.List.{List}
 use Prim.Native.Nat.{ℕ, _+_, _-_, _*_, _/_, _%_, _^_, _<_, _≤_}
-use native.Mathlib.Nat.{mul-le-mul-left, lt-of-mul-lt-mul-left}
+use native.Mathlib.Nat.{mul-le-mul-left, lt-of-mul-lt-mul-left, div-add-mod, mod-lt}
 use native.Mathlib.Decide.{decLt}
 use native.Mathlib.Omega.{arith}
 use borrow.Author.Tests.{lt-ltb}
@@ -16,44 +16,62 @@ use Rattle.linear_model.specs.Internal.Planes.{PlaneBits}
 use Rattle.linear_model.proofs.Sums.{sum-ext}
 use Rattle.linear_model.proofs.NumberBits.{from-bits-lt, from-bits-zeros, or-more}
 use Rattle.linear_model.proofs.Linearity.{digit-below}
-use Rattle.linear_model.proofs.Tables.{below-past}
+use Rattle.linear_model.proofs.Tables.{below-past, getD-tabulate}
 use Rattle.matrix_model.specs.Block.{Layout, rowsIn}
-use Rattle.matrix_model.specs.File.{Fits, blockCount, fileSize, rowPlaneOf, rowsOf}
+use Rattle.matrix_model.specs.File.{Fits, blockCount, fileSize, rowsSize, rowPlaneOf, rowByte, rowsOf}
 use Rattle.matrix_model.specs.Internal.Digits.{codeDigit, Span, Stands}
 use Rattle.matrix_model.proofs.Parts.{length-part, getD-part}
-use Rattle.matrix_model.proofs.Layouts.{before-check, covered, full}
-use Rattle.matrix_model.proofs.Rows.{length-rows, getD-rows}
+use Rattle.matrix_model.proofs.Layouts.{part-of, place-of, before-check, covered}
+use Rattle.matrix_model.proofs.Rows.{length-rows}
 use Rattle.matrix_model.proofs.Internal.Rows.{trit-take}
 use Rattle.matrix_model.proofs.Internal.RowNumbers.{Among, same-row}
 
 -- ---- rows, one after the other
 
 module _ {layout : Layout} (fits : Fits layout) where
+  -- row r of block b
+  row-of-block : (b r : ℕ) {k at : ℕ} → r < layout .blockRows → k ≡ layout .blockRows * b + r → at ≡ 512 * b + 4 + layout .rowBytes * r → Stands layout k r at
+  row-of-block b r l e f =
+      let n = layout .blockRows in
+      rw (e, f) (record { place = sym (place-of n b r l); byte = rw (part-of n b r l, place-of n b r l) })
+
   -- the first row
   pub stands-first : Stands layout 0 0 4
-  stands-first = record { block = 0; is = omega arith; inside = fits .some-rows; begins = omega arith }
+  stands-first = row-of-block 0 0 (fits .some-rows) (omega arith) (omega arith)
 
   module _ {k row at : ℕ} (p : Stands layout k row at) where
+    abbrev block : ℕ
+    block = k / layout .blockRows
+
+    is : k ≡ layout .blockRows * block + row
+    is = rw (p .place) (sym (div-add-mod k (layout .blockRows)))
+
+    pub inside : row < layout .blockRows
+    inside = rw (p .place) (mod-lt k (fits .some-rows))
+
+    begins : at ≡ 512 * block + 4 + layout .rowBytes * row
+    begins = p .byte ∙ ap (λ (r : ℕ). 512 * block + 4 + layout .rowBytes * r) (sym (p .place))
+
     -- the next one, in the same block or in the next
     pub stands-next : row + 1 < layout .blockRows → Stands layout (k + 1) (row + 1) (at + layout .rowBytes)
-    stands-next l = record { block = p .block; is = omega (arith, p .is); inside = l; begins = omega (arith, p .begins) }
+    stands-next l = row-of-block block (row + 1) l (omega (arith, is)) (omega (arith, begins))
 
     pub stands-block : layout .blockRows ≤ row + 1 → Stands layout (k + 1) 0 (at + 512 - layout .rowBytes * row)
-    stands-block l = record { block = p .block + 1; is = omega (arith, p .is, p .inside); inside = fits .some-rows; begins = omega (arith, p .begins) }
+    stands-block l = row-of-block (block + 1) 0 (fits .some-rows) (omega (arith, is, inside)) (omega (arith, begins))
 
     -- the rows before it in its block
     pub rows-before : layout .rowBytes * row ≤ 506
-    rows-before = omega (arith, fits .before-check, mul-le-mul-left {m = row} {n = layout .blockRows} (layout .rowBytes) (omega (arith, p .inside)))
+    rows-before = omega (arith, fits .before-check, mul-le-mul-left {m = row} {n = layout .blockRows} (layout .rowBytes) (omega (arith, inside)))
 
     module _ (l : k < layout .rowCount) where
-      its-block : p .block < blockCount layout
-      its-block = lt-of-mul-lt-mul-left (layout .blockRows) (omega (arith, p .is, covered layout fits))
+      its-block : block < blockCount layout
+      its-block = lt-of-mul-lt-mul-left (layout .blockRows) (omega (arith, is, covered layout fits))
 
-      its-place : row + 1 ≤ rowsIn layout (p .block)
-      its-place = omega (arith, p .is, p .inside)
+      its-place : row + 1 ≤ rowsIn layout block
+      its-place = omega (arith, is, inside)
 
       pub place-small : at ≤ 512 * 255 + 510
-      place-small = omega (arith, p .begins, fits .block-bytes, its-block, rows-before)
+      place-small = omega (arith, begins, fits .block-bytes, its-block, rows-before)
 
 -- ---- the digits of a part
 
@@ -71,25 +89,25 @@ module _ (layout : Layout) (fits : Fits layout) (file v : List ℕ) where
     abbrev w : ℕ
     w = layout .rowBytes
 
-    ends : w * (row + 1) ≤ w * rowsIn layout (p .block)
+    ends : w * (row + 1) ≤ w * rowsIn layout (block fits p)
     ends = mul-le-mul-left w (its-place fits p l)
 
     -- it is in the file
     pub row-within : at + w ≤ length file
-    row-within = omega (arith, p .begins, its-block fits p l, ends, before-check layout fits (p .block))
+    row-within = omega (arith, begins fits p, its-block fits p l, ends, before-check layout fits (block fits p))
 
     -- and is row k
     its-row : Among layout (rowsOf layout file) k 1 (take w (drop at file))
+    unfolding rowsOf
     its-row =
         let all : w * (k + 1) ≤ w * layout .rowCount = mul-le-mul-left w (omega arith) in
-        let first : w * k ≡ w * layout .blockRows * p .block + w * row = rw (p .is) (omega arith) in
         record {
           within = omega (arith, length-rows layout file);
           long = omega (arith, length-part w at file row-within);
           same =
-              λ q t. ap (λ (x : ℕ). getD (rowsOf layout file) x 0) {y = w * layout .blockRows * p .block + (w * row + q)} (omega (arith, first))
-              ∙ getD-rows layout fits file (p .block) (w * row + q) (full layout fits (p .block) (w * row + q) (omega (arith, ends))) (omega (arith, first))
-              ∙ ap (λ (x : ℕ). getD file x 0) {y = at + q} (omega (arith, p .begins)) ∙ sym (getD-part w at file q (omega arith));
+              λ q t. getD-tabulate (rowsSize layout) (rowByte layout file) (w * k + q) (omega arith)
+              ∙ rw (part-of w k q (omega arith), place-of w k q (omega arith)) (ap (λ (x : ℕ). getD file (x + q) 0) (sym (p .byte)))
+              ∙ sym (getD-part w at file q (omega arith));
         }
 
     -- so what it gives is digit k

@@ -3,7 +3,7 @@ use Prim.Native.Nat.{_+_, _*_, _≤_}
 use mathlib.Core.Path.{refl}
 use native.Mathlib.Omega.{arith}
 use Rattle.matrix_model.proofs.Layouts.{bytes-few, rows-few, count-small}
-use Rattle.matrix_model.proofs.Internal.Digits.{stands-next, stands-block, rows-before, place-small}
+use Rattle.matrix_model.proofs.Internal.Digits.{inside, stands-next, stands-block, rows-before, place-small}
 use Rattle.matrix_blocks.specs.Layouts.{layoutIn}
 use Rattle.matrix_digits.proofs.digits.next_place.Statement.{statement}
 use Rattle.matrix_digits.proofs.digits.next_place.Tie as tie
@@ -16,7 +16,7 @@ small c =
     let layout = layoutIn (c .args .layout) in
     let fits = c .pre .0 in (
       omega (arith, c .pre .2, count-small layout fits),
-      omega (arith, c .pre .1 .inside, rows-few layout fits),
+      omega (arith, inside fits (c .pre .1), rows-few layout fits),
       place-small fits (c .pre .1) (c .pre .2),
       bytes-few layout fits,
       rows-before fits (c .pre .1),
