@@ -34,14 +34,14 @@
  *
  * STACK. What each call uses at most in any set, arguments and return address included, in KiB, rounded up:
  *
- *     pair_matrix_check   0.5     pair_evaluate      2.8     pair_begin             0.2
- *     pair_matrix_read    0.5     pair_sample        0.7     pair_step, with deal   0.5
- *     pair_matrix_write   1.2     pair_deal          2.8     .. with open           3.2
- *     pair_join           0.3     pair_deal_source   3.3     .. with mask           1.2
+ *     pair_matrix_check   0.5     pair_evaluate      2.7     pair_begin             0.2
+ *     pair_matrix_read    0.6     pair_sample        0.7     pair_step, with deal   0.4
+ *     pair_matrix_write   1.2     pair_deal          2.8     .. with open           3.1
+ *     pair_join           0.3     pair_deal_source   3.4     .. with mask           1.3
  *                                                            pair_run               9.3
  *
  * A program that looks for memcpy and memset at their first use (lazy binding) takes about 3.1 KiB below where
- * they are called, so pair_run 9.7 in all where it is the first call; linked with -z now it does not. Measured,
+ * they are called, so pair_run 9.6 in all where it is the first call; linked with -z now it does not. Measured,
  * not proved: the library was made by the toolchain rattle-kit-5b, its callers by GCC 12 and Clang 14.
  * tests/c/stack.c measures the table again.
  *

@@ -42,7 +42,7 @@ fn row_words(rows: &[u8], v: &[u8], m: usize, at: usize) -> u64
 }
 
 // The row at byte `at` times a vector whose planes have `m` bytes, modulo 3: digit by digit after the last whole word.
-pub fn row_digit(rows: &[u8], v: &[u8], m: usize, at: usize) -> u64
+fn row_digit(rows: &[u8], v: &[u8], m: usize, at: usize) -> u64
     requires { ⌜ (at + 2 * m ≤ length (now rows)) × (2 * m ≤ length (now v)) × (m < 2 ^ 31) ⌝ }
     ensures { λ r. ⌜ r ≡ rowProduct m (drop at (now (rows .entry))) (now (v .entry)) ⌝ }
 {

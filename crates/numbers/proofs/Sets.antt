@@ -39,6 +39,17 @@ counted-set set = pick (isSet set) refl
 pub counted-is : (set : ℕ) → isSet set ≡ true → counted set ≡ set
 counted-is set e = rw e
 
+-- and no other number does
+pub own-number : (set : ℕ) → counted set ≡ set → isSet set ≡ true
+own-number set e = subst (λ (n : ℕ). isSet n ≡ true) e (counted-set set)
+
+pub other-number : (set : ℕ) → (counted set ≡ set → ⊥) → isSet set ≡ false
+other-number set h = pick (isSet set) refl
+  where
+    pick : (b : Bool) → isSet set ≡ b → b ≡ false
+    pick true e = absurd (h (counted-is set e))
+    pick false e = refl
+
 -- what is neither 2 nor 3 counts as 1
 pub counted-other : (set : ℕ) → (set ≡ 2 → ⊥) → (set ≡ 3 → ⊥) → counted set ≡ 1
 counted-other set a b = rw (ne-eqb set 2 a, ne-eqb set 3 b) (pick (eqb set 1) refl)
@@ -61,29 +72,29 @@ module _ (set : ℕ) (cs : List Condition) where
   pub lowest-in : Rising cs → LowestIn set cs (numberIn set cs)
   lowest-in r = record { none = number-none; lowest = λ e. rw (number-in e) (first-lowest r) }
 
--- the number that set k's conditions give, where k is the set that was named
-pub set-number : {set k : ℕ} → set ≡ k → isSet k ≡ true → (cs : ℕ → List Condition) → first (cs k) ≡ numberIn set (cs set)
-set-number {set} {k} e i cs = sym (number-in k (cs k) i) ∙ ap (λ (j : ℕ). numberIn j (cs j)) (sym e)
+-- ---- calls that name a set, by what is called with the numbers x that are the set's
 
--- ---- calls that name a set, by what is called for set k
+module _ (set : ℕ) (i : isSet set ≡ true) {A : Type 0} {x y : A} (e : x ≡ y) (cs : A → List Condition) where
+  pub number-of : {r : ℕ} → r ≡ first (cs x) → r ≡ numberIn set (cs y)
+  number-of h = h ∙ ap (λ (z : A). first (cs z)) e ∙ sym (number-in set (cs y) i)
 
-module _ {set k : ℕ} (e : set ≡ k) (i : isSet k ≡ true) (cs : ℕ → List Condition) (bytes : ℕ → List ℕ) (old : List ℕ) {r : ℕ} {new : List ℕ} where
-  -- with an output slice
-  pub called-in : (r ≡ first (cs k)) × (new ≡ output r (bytes k) old) → (r ≡ numberIn set (cs set)) × (new ≡ output r (bytes set) old)
-  called-in h = (h .0 ∙ set-number e i cs, h .1 ∙ ap (λ (j : ℕ). output r (bytes j) old) (sym e))
+  module _ (bytes : A → List ℕ) (old : List ℕ) {r : ℕ} {new : List ℕ} where
+    -- with an output slice
+    pub called-in : (r ≡ first (cs x)) × (new ≡ output r (bytes x) old) → (r ≡ numberIn set (cs y)) × (new ≡ output r (bytes y) old)
+    called-in h = (number-of (h .0), h .1 ∙ ap (λ (z : A). output r (bytes z) old) e)
 
-  -- and a count
-  pub counted-in : (count : ℕ → ℕ) {m : ℕ} → (r ≡ first (cs k)) × ((m ≡ reported r (count k)) × (new ≡ output r (bytes k) old))
-      → (r ≡ numberIn set (cs set)) × ((m ≡ reported r (count set)) × (new ≡ output r (bytes set) old))
-  counted-in count h =
-      let all = called-in (h .0, h .1 .1) in
-      (all .0, (h .1 .0 ∙ ap (λ (j : ℕ). reported r (count j)) (sym e), all .1))
+    -- and a count
+    pub counted-in : (count : A → ℕ) {m : ℕ} → (r ≡ first (cs x)) × ((m ≡ reported r (count x)) × (new ≡ output r (bytes x) old))
+        → (r ≡ numberIn set (cs y)) × ((m ≡ reported r (count y)) × (new ≡ output r (bytes y) old))
+    counted-in count h =
+        let all = called-in (h .0, h .1 .1) in
+        (all .0, (h .1 .0 ∙ ap (λ (z : A). reported r (count z)) e, all .1))
 
 -- where there is no such set
-module _ (set : ℕ) (cs : List Condition) (bytes old : List ℕ) (a : set ≡ 1 → ⊥) (b : set ≡ 2 → ⊥) (c : set ≡ 3 → ⊥) where
+module _ (set : ℕ) (i : isSet set ≡ false) (cs : List Condition) (bytes old : List ℕ) where
   pub called-none : (14 ≡ numberIn set cs) × (old ≡ output 14 bytes old)
   unfolding output
-  called-none = (sym (number-none set cs (no-set set a b c)), refl)
+  called-none = (sym (number-none set cs i), refl)
 
   pub counted-none : (count : ℕ) {r m : ℕ} → (r ≡ 14) × (m ≡ 0) → (r ≡ numberIn set cs) × ((m ≡ reported r count) × (old ≡ output r bytes old))
   unfolding output reported

@@ -14,9 +14,8 @@ use linear::products::circulant_product;
 use numbers::table::DONE;
 use numbers::table::NO_SET;
 use numbers::table::WRONG_LENGTH;
-use pair_frames::sizes::SET_1;
-use pair_frames::sizes::SET_2;
-use pair_frames::sizes::SET_3;
+use pair_frames::sets::is_set;
+use pair_frames::sets::sizes_of;
 use pair_frames::sizes::Sizes;
 use pair_frames::sizes::TRITS_ROOM;
 use pair_matrix::rows::file_number;
@@ -73,10 +72,8 @@ pub fn evaluate(set: u32, key: &[u8], label: &[u8], file: &[u8], out: &mut [u8])
         output r (code (schemeOf set) (now (key .entry)) (now (label .entry)) (files (now (file .entry)))) (now (out .entry))
         ⌝ }
 {
-    match set {
-        1 => evaluate_sized(SET_1, key, label, file, out),
-        2 => evaluate_sized(SET_2, key, label, file, out),
-        3 => evaluate_sized(SET_3, key, label, file, out),
-        _ => NO_SET,
+    if is_set(set) {
+        return evaluate_sized(sizes_of(set), key, label, file, out);
     }
+    NO_SET
 }

@@ -27,10 +27,9 @@ use pair_frames::frame::SHARE;
 use pair_frames::frame::header_number;
 use pair_frames::frame::read_header;
 use pair_frames::header::Header;
+use pair_frames::sets::is_set;
+use pair_frames::sets::sizes_of;
 use pair_frames::sizes::HEADER_BYTES;
-use pair_frames::sizes::SET_1;
-use pair_frames::sizes::SET_2;
-use pair_frames::sizes::SET_3;
 use pair_frames::sizes::Sizes;
 
 // The lower of two numbers, where 0 is none.
@@ -146,10 +145,8 @@ pub fn join(set: u32, first: &[u8], second: &[u8], out: &mut [u8]) -> u32
     ensures result { λ n. ⌜ n ≡ numberIn set (joinConditions (schemeOf set) (now (first .entry)) (now (second .entry)) (length (now (out .entry)))) ⌝ }
     ensures output { λ n. ⌜ now (out .exit) ≡ output n (joined (schemeOf set) (now (first .entry)) (now (second .entry))) (now (out .entry)) ⌝ }
 {
-    match set {
-        1 => join_sized(SET_1, first, second, out),
-        2 => join_sized(SET_2, first, second, out),
-        3 => join_sized(SET_3, first, second, out),
-        _ => NO_SET,
+    if is_set(set) {
+        return join_sized(sizes_of(set), first, second, out);
     }
+    NO_SET
 }

@@ -18,10 +18,9 @@ use numbers::table::NO_SET;
 use numbers::table::UNFIT_TRIT;
 use numbers::table::WRONG_LENGTH;
 use pair_deals::frames::write_deal;
+use pair_frames::sets::is_set;
+use pair_frames::sets::sizes_of;
 use pair_frames::sizes::HEADER_BYTES;
-use pair_frames::sizes::SET_1;
-use pair_frames::sizes::SET_2;
-use pair_frames::sizes::SET_3;
 use pair_frames::sizes::STRING_ROOM;
 use pair_frames::sizes::Sizes;
 use pair_sampler::sampler::sample_sized;
@@ -74,12 +73,10 @@ pub fn deal(set: u32, session: u32, tape: &[u8], out: &mut [u8]) -> u32
     ensures accepted_tapes { λ _. ⌜ InEachSet TakesAccepted ⌝ }
     ensures privacy { λ _. ⌜ InEachSet (λ S. Privacy (protocol S)) ⌝ }
 {
-    match set {
-        1 => deal_sized(SET_1, session, tape, out),
-        2 => deal_sized(SET_2, session, tape, out),
-        3 => deal_sized(SET_3, session, tape, out),
-        _ => NO_SET,
+    if is_set(set) {
+        return deal_sized(sizes_of(set), session, tape, out);
     }
+    NO_SET
 }
 
 // Deals the tape that the sampler draws of source bytes from pair `start` on.
@@ -117,10 +114,8 @@ pub fn deal_source(set: u32, session: u32, start: u64, source: &[u8], out: &mut 
     ensures disjoint { λ _. ⌜ DisjointDraws ⌝ }
     ensures privacy { λ _. ⌜ InEachSet (λ S. Privacy (protocol S)) ⌝ }
 {
-    match set {
-        1 => deal_source_sized(SET_1, session, start, source, out),
-        2 => deal_source_sized(SET_2, session, start, source, out),
-        3 => deal_source_sized(SET_3, session, start, source, out),
-        _ => refused(NO_SET),
+    if is_set(set) {
+        return deal_source_sized(sizes_of(set), session, start, source, out);
     }
+    refused(NO_SET)
 }

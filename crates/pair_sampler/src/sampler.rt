@@ -11,9 +11,8 @@ use crate::packing::pack;
 use numbers::table::DONE;
 use numbers::table::NO_SET;
 use numbers::table::WRONG_LENGTH;
-use pair_frames::sizes::SET_1;
-use pair_frames::sizes::SET_2;
-use pair_frames::sizes::SET_3;
+use pair_frames::sets::is_set;
+use pair_frames::sets::sizes_of;
 use pair_frames::sizes::STRING_ROOM;
 use pair_frames::sizes::Sizes;
 use source::drawing::Draw;
@@ -53,10 +52,8 @@ pub fn sample(set: u32, start: u64, source: &[u8], out: &mut [u8]) -> Draw
     ensures output { λ r. ⌜ now (out .exit) ≡ output (r .result) (sampled (schemeOf set) (now (source .entry)) start) (now (out .entry)) ⌝ }
     ensures disjoint { λ _. ⌜ DisjointDraws ⌝ }
 {
-    match set {
-        1 => sample_sized(SET_1, start, source, out),
-        2 => sample_sized(SET_2, start, source, out),
-        3 => sample_sized(SET_3, start, source, out),
-        _ => refused(NO_SET),
+    if is_set(set) {
+        return sample_sized(sizes_of(set), start, source, out);
     }
+    refused(NO_SET)
 }

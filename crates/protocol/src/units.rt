@@ -18,9 +18,7 @@ ghost use Rattle.pair_model.specs.Calls.{StatesFit, CallsAreRuns};
 use numbers::table::NO_SET;
 use numbers::table::WRONG_LENGTH;
 use pair_frames::sets::is_set;
-use pair_frames::sizes::SET_1;
-use pair_frames::sizes::SET_2;
-use pair_frames::sizes::SET_3;
+use pair_frames::sets::sizes_of;
 use pair_frames::sizes::SET_AT;
 use pair_frames::sizes::STATE_BYTES;
 use pair_states::beginnings::begin_slice;
@@ -97,9 +95,6 @@ pub extern "C" fn pair_step(
     if state.len() != STATE_BYTES {
         return WRONG_LENGTH;
     }
-    match state[SET_AT] {
-        2 => step_slice(SET_2, state, f, file, out, count),
-        3 => step_slice(SET_3, state, f, file, out, count),
-        _ => step_slice(SET_1, state, f, file, out, count),
-    }
+    let sizes = sizes_of(state[SET_AT] as u32);
+    step_slice(sizes, state, f, file, out, count)
 }

@@ -1,48 +1,29 @@
--- `pair_counter::join::join` meets its contract, set by set.
-use mathlib.Core.Path.{refl}
-use mathlib.Core.List.{List}
-use Prim.Native.Nat.{ℕ}
-use Rattle.numbers.specs.Number.{Condition}
+-- `pair_counter::join::join` meets its contract: a set that there is has its sizes.
+use mathlib.Core.Path.{sym, _∙_}
+use lib.ListN.{length}
 use Rattle.numbers.proofs.Sets.{called-in, called-none}
-use Rattle.pair_frames.proofs.Bases.{fits-1, fits-2, fits-3}
-use Rattle.pair_model.specs.Base.{schemeOf}
+use Rattle.pair_frames.proofs.Bases.{counted-fits, named-scheme}
+use Rattle.pair_model.specs.Scheme.{Scheme}
 use Rattle.pair_model.specs.Join.{joinConditions, joined}
 use Rattle.pair_counter.proofs.join.join.Statement.{statement}
 use Rattle.pair_counter.proofs.join.join.Tie as tie
 
--- the conditions and the code in set k
-abbrev conditions : (f g : List ℕ) → ℕ → ℕ → List Condition
-conditions f g n k = joinConditions (schemeOf k) f g n
-
-abbrev joinedIn : (f g : List ℕ) → ℕ → List ℕ
-joinedIn f g k = joined (schemeOf k) f g
-
 returns : tie.Need-returns
 returns c =
-    let a = c .before .before .before .before .before .before .before .before .args in
-    called-in (c .before .before .before .before .match .keys1) refl (conditions (a .first .now) (a .second .now) _)
-    (joinedIn (a .first .now) (a .second .now)) (a .out .now) (c .before .before .join-sized .ensures)
+    let z = c .before .before .before .before in
+    let k = z .before .before in
+    let a = k .before .before .before .before .args in
+    let i = sym (k .is-set .ensures) ∙ z .before .if1 .taken in
+    called-in (a .set) i (named-scheme (a .set) (z .sizes-of .ensures) i) (λ (S : Scheme). joinConditions S (a .first .now) (a .second .now) (length (a .out .now))) (λ S. joined S (a .first .now) (a .second .now)) (a .out .now)
+    (c .before .before .join-sized .ensures)
 
 returns-2 : tie.Need-returns-2
 returns-2 c =
-    let a = c .before .before .before .before .before .before .before .before .args in
-    called-in (c .before .before .before .before .match .keys2) refl (conditions (a .first .now) (a .second .now) _)
-    (joinedIn (a .first .now) (a .second .now)) (a .out .now) (c .before .before .join-sized2 .ensures)
-
-returns-3 : tie.Need-returns-3
-returns-3 c =
-    let a = c .before .before .before .before .before .before .before .before .args in
-    called-in (c .before .before .before .before .match .keys3) refl (conditions (a .first .now) (a .second .now) _)
-    (joinedIn (a .first .now) (a .second .now)) (a .out .now) (c .before .before .join-sized3 .ensures)
-
-returns-4 : tie.Need-returns-4
-returns-4 c =
-    let a = c .before .before .before .before .args in
-    let none = c .match .rest in
-    called-none (a .set) _ _ (a .out .now) (none .0 .0 .1) (none .0 .1) (none .1)
+    let k = c .before in
+    let a = k .before .before .before .before .args in
+    called-none (a .set) (sym (k .is-set .ensures) ∙ c .if1 .left) _ _ (a .out .now)
 
 pub join-spec : {M : Type 1} → statement M
 join-spec =
     tie.close
-    (tie.spec (λ c κs. fits-1) (λ c κs. fits-2) (λ c κs. fits-3) (λ c. c .before .out .given) returns (λ c. c .before .out2 .given) returns-2
-    (λ c. c .before .out3 .given) returns-3 returns-4)
+    (tie.spec (λ c κs. tt) (λ c κs. tt) (λ c κs. counted-fits (c .before .before .before .before .before .before .before .args .set) (c .before .sizes-of .ensures)) (λ c. c .before .out .given) returns returns-2)

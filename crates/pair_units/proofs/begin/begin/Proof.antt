@@ -1,8 +1,7 @@
 -- `pair_units::begin::begin` meets its contract: of a set that there is, the beginning is its scheme's.
-use mathlib.Core.Path.{sym, ap, subst, _∙_}
-use Rattle.numbers.proofs.Sets.{counted-is}
-use Rattle.pair_frames.specs.Schemes.{schemeIn, setSizes, Fits}
-use Rattle.pair_frames.proofs.Bases.{set-is, set-fits}
+use mathlib.Core.Path.{sym, ap, _∙_}
+use Rattle.pair_frames.proofs.Bases.{counted-fits, named-scheme}
+use Rattle.pair_model.specs.Scheme.{Scheme}
 use Rattle.pair_model.specs.Base.{schemeOf, InEachSet}
 use Rattle.pair_model.specs.Frame.{parameters}
 use Rattle.pair_model.specs.Unit.{Beginning, begin}
@@ -20,17 +19,14 @@ theorems = ((λ set is. begins (schemeOf set)), (λ set is. set-demand3 set .pri
 
 begin-unit-requires : tie.Need-begin-unit-requires
 begin-unit-requires c κs =
-    let set = c .before .before .before .before .before .args .set in
-    let is = sym (c .before .before .is-set .ensures) ∙ c .before .if1 .taken in
-    subst Fits (sym (c .sizes-of .ensures ∙ ap setSizes (counted-is set is))) (set-fits set is)
+    counted-fits (c .before .before .before .before .before .args .set) (c .sizes-of .ensures)
 
 returns : tie.Need-returns
 returns c =
     let a = c .before .before .before .before .before .before .args in
     let t = parameters (a .side) (a .session) in
     let is = sym (c .before .before .before .is-set .ensures) ∙ c .before .before .if1 .taken in
-    let z = c .before .sizes-of .ensures ∙ ap setSizes (counted-is (a .set) is) in
-    let e = (λ i. begin (schemeIn (z i)) t (a .key .now) (a .label .now)) ∙ (λ i. begin (set-is (a .set) is i) t (a .key .now) (a .label .now))
+    let e = ap (λ (S : Scheme). begin S t (a .key .now) (a .label .now)) (named-scheme (a .set) (c .before .sizes-of .ensures) is)
     ∙ sym (begin-in (a .set) is t (a .key .now) (a .label .now)) in
     let b = c .begin-unit .ensures in (
       b .0 ∙ ap (λ (b : Beginning). b .result) e,

@@ -1,18 +1,18 @@
 -- `protocol::units::pair_step` meets its contract: the step is that of the slice's set, and the slice stands for the next state. The theorem
 -- and the evidence are the model's, and what is said of lists of calls is that of Calls.
-use mathlib.Core.Path.{_≡_, sym, ap, _∙_}
+use mathlib.Core.Path.{_≡_, ap, _∙_}
 use mathlib.Core.List.{List}
 use mathlib.Core.Bool.{cond}
 use Prim.Native.Nat.{ℕ}
+use native.Mathlib.Omega.{arith}
 use borrow.Author.Needs.{needs}
 use lib.Dec.{eqb}
-use lib.ListN.{length}
+use lib.ListN.{length, getD}
 use Rattle.numbers.specs.Number.{atFront}
-use Rattle.numbers.specs.Sets.{counted}
-use Rattle.numbers.proofs.Sets.{counted-other}
-use Rattle.pair_frames.proofs.Bases.{fits-1, fits-2, fits-3}
-use Rattle.pair_model.specs.Scheme.{Files, files}
+use Rattle.pair_frames.proofs.Bases.{counted-fits, counted-scheme}
+use Rattle.pair_model.specs.Scheme.{Files, files, Scheme}
 use Rattle.pair_model.specs.Base.{schemeOf, InEachSet}
+use Rattle.pair_model.specs.Frame.{headerBytes}
 use Rattle.pair_model.specs.Unit.{Stepped, step}
 use Rattle.pair_model.specs.Run.{protocol}
 use Rattle.pair_model.specs.Theorem.{Correctness, Privacy, ThreeFrames}
@@ -40,17 +40,17 @@ module _ (s f : List ℕ) (lent : Files) (o : List ℕ) where
       × (CallsAreRuns
       × (InEachSet (λ S. Correctness (protocol S)) × (InEachSet (λ S. Privacy (protocol S)) × (InEachSet (λ S. ThreeFrames (protocol S)) × Evidence))))))))
 
-  -- the step in set k, which is the slice's
-  abbrev taken : ℕ → Stepped
-  taken k = step (schemeOf k) (decodeAs (schemeOf k) s) f lent n
+  -- the step in a scheme, which is that of the slice's set
+  abbrev taken : Scheme → Stepped
+  taken S = step S (decodeAs S s) f lent n
 
-  stepped : (k : ℕ) → setIn s ≡ k → length s ≡ stateBytes → AreBytes s → AreBytes f → (t p : List ℕ) (count r : ℕ)
-      → (r ≡ taken k .result)
-      × ((t ≡ cond (eqb r 0) (encodeState (taken k .next)) s) × ((p ≡ atFront (taken k .written) o) × (count ≡ length (taken k .written))))
+  stepped : (S : Scheme) → S ≡ schemeOf (setIn s) → length s ≡ stateBytes → AreBytes s → AreBytes f → (t p : List ℕ) (count r : ℕ)
+      → (r ≡ taken S .result)
+      × ((t ≡ cond (eqb r 0) (encodeState (taken S .next)) s) × ((p ≡ atFront (taken S .written) o) × (count ≡ length (taken S .written))))
       → Claims t p count r
   unfolding pairStepState
-  stepped k e long hs hf t p count r h =
-      let is : taken k ≡ sliceStep s f lent n = ap taken (sym e) in
+  stepped S e long hs hf t p count r h =
+      let is : taken S ≡ sliceStep s f lent n = ap taken e in
       let number = h .0 ∙ ap (λ (x : Stepped). x .result) is ∙ by-number s long f lent n in
       let state : t ≡ pairStepState s f lent n = h .1 .0 ∙ (λ i. cond (eqb (number i) 0) (encodeState (is i .next)) s) in
       let written = ap (λ (x : Stepped). x .written) is ∙ by-written s long f lent n in (
@@ -76,29 +76,11 @@ returns c =
 returns-2 : tie.Need-returns-2
 returns-2 c =
     let k = c .before .before .before .before in
-    let m = k .before .before .before .before in
-    let q = m .before .before in
+    let z = k .before .before .before .before in
+    let q = z .before .before in
     let a = q .before .before .before .before .before .args in
-    stepped (a .state .now) (a .f .now) (files (a .file .now)) (a .out .now) 2 (ap counted (m .match .keys1)) (q .if1 .left)
+    stepped (a .state .now) (a .f .now) (files (a .file .now)) (a .out .now) _ (counted-scheme (getD (a .state .now) headerBytes 0) (z .sizes-of .ensures)) (q .if1 .left)
     (λ i. q .before .before .before .before .slice-known .given i .fits) (λ i. q .before .before .before .shared-slice-known .given i .fits) _ _ _ _ (k .step-slice .ensures)
-
-returns-3 : tie.Need-returns-3
-returns-3 c =
-    let k = c .before .before .before .before in
-    let m = k .before .before .before .before in
-    let q = m .before .before in
-    let a = q .before .before .before .before .before .args in
-    stepped (a .state .now) (a .f .now) (files (a .file .now)) (a .out .now) 3 (ap counted (m .match .keys2)) (q .if1 .left)
-    (λ i. q .before .before .before .before .slice-known .given i .fits) (λ i. q .before .before .before .shared-slice-known .given i .fits) _ _ _ _ (k .step-slice2 .ensures)
-
-returns-4 : tie.Need-returns-4
-returns-4 c =
-    let k = c .before .before .before .before in
-    let m = k .before .before .before .before in
-    let q = m .before .before in
-    let a = q .before .before .before .before .before .args in
-    stepped (a .state .now) (a .f .now) (files (a .file .now)) (a .out .now) 1 (counted-other _ (m .match .rest .0 .1) (m .match .rest .1)) (q .if1 .left)
-    (λ i. q .before .before .before .before .slice-known .given i .fits) (λ i. q .before .before .before .shared-slice-known .given i .fits) _ _ _ _ (k .step-slice3 .ensures)
 
 pub pair-step-spec : {M : Type 1} → statement M
 pair-step-spec =
@@ -106,15 +88,9 @@ pair-step-spec =
     (tie.spec
     returns
     (λ c. search needs)
-    (λ c κs. (fits-2, c .before .before .before .before .before .if1 .left))
-    (λ c κs. (fits-3, c .before .before .before .before .before .if1 .left))
-    (λ c κs. (fits-1, c .before .before .before .before .before .if1 .left))
+    (λ c. omega (arith, c .slice-known3 .given headerBytes .fits))
+    (λ c κs. tt)
+    (λ c κs. (counted-fits (getD (c .before .before .before .before .before .before .before .before .before .before .args .state .now) headerBytes 0) (c .before .before .before .sizes-of .ensures), c .before .before .before .before .before .if1 .left))
     (λ c. search needs)
     (λ c. search needs)
-    returns-2
-    (λ c. search needs)
-    (λ c. search needs)
-    returns-3
-    (λ c. search needs)
-    (λ c. search needs)
-    returns-4)
+    returns-2)

@@ -1,5 +1,5 @@
 -- `UnitState::step` meets its contract: the sizes are those of the scheme that the set names. Theorem and evidence are the model's.
-use mathlib.Core.Path.{_≡_, sym, ap, subst, _∙_}
+use mathlib.Core.Path.{_≡_, ap, _∙_}
 use mathlib.Core.Bool.{cond}
 use native.Mathlib.Omega.{arith}
 use lib.Dec.{eqb}
@@ -7,8 +7,8 @@ use lib.ListN.{length}
 use Rattle.numbers.specs.Number.{atFront}
 use Rattle.numbers.specs.Sets.{counted}
 use Rattle.numbers.proofs.Sets.{counted-set}
-use Rattle.pair_frames.specs.Schemes.{schemeIn, setSizes, Fits}
-use Rattle.pair_frames.proofs.Bases.{set-is, set-fits}
+use Rattle.pair_frames.specs.Schemes.{schemeIn, setSizes}
+use Rattle.pair_frames.proofs.Bases.{set-is, counted-fits}
 use Rattle.pair_model.specs.Unit.{Stepped, step}
 use Rattle.pair_model.specs.Scheme.{files}
 use Rattle.pair_model.proofs.Evidence.Whole.{theorem-and-evidence}
@@ -17,9 +17,7 @@ use Rattle.pair_units.proofs.state.UnitState.step.Statement.{statement}
 use Rattle.pair_units.proofs.state.UnitState.step.Tie as tie
 
 step-unit-requires : tie.Need-step-unit-requires
-step-unit-requires c κs =
-    let set = c .before .before .before .before .before .before .args .self .set in
-    subst Fits (sym (c .before .sizes-of .ensures)) (set-fits (counted set) (counted-set set))
+step-unit-requires c κs = counted-fits (c .before .before .before .before .before .before .args .self .set) (c .before .sizes-of .ensures)
 
 returns : tie.Need-returns
 returns c =
