@@ -12,35 +12,46 @@ use Rattle.matrix_model.specs.File.{Fits, layoutOf}
 use Rattle.matrix_model.proofs.Layouts.{first-fits, second-fits, third-fits}
 
 -- the layout l that is counted for a number
-module _ (set : ℕ) (l : Layout) (e : l ≡ layoutOf (counted set)) where
+module _ (set : ℕ) {l : Layout} (e : l ≡ layoutOf (counted set)) where
   pub counted-fits : Fits l
   counted-fits = subst Fits (sym e) (each (λ set. Fits (layoutOf set)) first-fits second-fits third-fits (counted set) (counted-set set))
 
-  -- it says the number just where that is a set
-  pub said : l .set ≡ set → isSet set ≡ true
-  said h = own-number set (sym (ap (λ (l : Layout). l .set) e) ∙ h)
+  says : l .set ≡ counted set
+  says = ap (λ (l : Layout). l .set) e
 
-  pub not-said : (l .set ≡ set → ⊥) → isSet set ≡ false
-  not-said h = other-number set (λ s. h (ap (λ (l : Layout). l .set) e ∙ s))
+  -- it says the number that was named just where that is a set
+  is-said : l .set ≡ set → isSet set ≡ true
+  is-said h = own-number set (sym says ∙ h)
+
+  not-said : (l .set ≡ set → ⊥) → isSet set ≡ false
+  not-said h = other-number set (λ s. h (says ∙ s))
 
   -- and is then its layout
-  pub named-layout : isSet set ≡ true → l ≡ layoutOf set
-  named-layout i = e ∙ ap layoutOf (counted-is set i)
+  named-layout : l .set ≡ set → l ≡ layoutOf set
+  named-layout h = e ∙ ap layoutOf (counted-is set (is-said h))
 
--- the conditions with a layout, the bytes that are written, and what holds of those
-module _ (set : ℕ) (cs : Layout → List Condition) (bytes : Layout → List ℕ) (holds : Layout → List ℕ → Type 0) (old : List ℕ) where
-  abbrev Called : (r : ℕ) (new : List ℕ) → Type 0
-  Called r new =
-      let number = numberIn set (cs (layoutOf set)) in
-      (r ≡ number) × ((new ≡ output number (bytes (layoutOf set)) old) × (r ≡ 0 → holds (layoutOf set) new))
+  -- the number, by the conditions with a layout
+  module _ (cs : Layout → List Condition) where
+    pub number-said : l .set ≡ set → {r : ℕ} → r ≡ first (cs l) → r ≡ numberIn set (cs (layoutOf set))
+    number-said h = number-of set (is-said h) (named-layout h) cs
 
-  pub of-set : isSet set ≡ true → {l : Layout} → l ≡ layoutOf set → {r : ℕ} {new : List ℕ}
-      → (r ≡ first (cs l)) × ((new ≡ output (first (cs l)) (bytes l) old) × (r ≡ 0 → holds l new)) → Called r new
-  of-set i {l} e {r} {new} h =
-      let number = number-of set i e cs refl in
-      (h .0 ∙ number, (h .1 .0 ∙ (λ j. output (number j) (bytes (e j)) old), λ z. subst (λ (l : Layout). holds l new) e (h .1 .1 z)))
+    pub number-not-said : (l .set ≡ set → ⊥) → 14 ≡ numberIn set (cs (layoutOf set))
+    number-not-said h = sym (number-none set (cs (layoutOf set)) (not-said h))
 
-  -- where no set is named
-  pub of-none : isSet set ≡ false → Called 14 old
-  unfolding output
-  of-none i = let number = number-none set (cs (layoutOf set)) i in (sym number, (rw number, λ z. absurd (omega arith)))
+    -- with the bytes that are written, and what holds of those
+    module _ (bytes : Layout → List ℕ) (holds : Layout → List ℕ → Type 0) (old : List ℕ) where
+      abbrev Called : (r : ℕ) (new : List ℕ) → Type 0
+      Called r new =
+          let number = numberIn set (cs (layoutOf set)) in
+          (r ≡ number) × ((new ≡ output number (bytes (layoutOf set)) old) × (r ≡ 0 → holds (layoutOf set) new))
+
+      pub called-said : l .set ≡ set → {r : ℕ} {new : List ℕ}
+          → (r ≡ first (cs l)) × ((new ≡ output (first (cs l)) (bytes l) old) × (r ≡ 0 → holds l new)) → Called r new
+      called-said s {r} {new} h =
+          let is = named-layout s in
+          let number = number-said s refl in
+          (h .0 ∙ number, (h .1 .0 ∙ (λ j. output (number j) (bytes (is j)) old), λ z. subst (λ (l : Layout). holds l new) is (h .1 .1 z)))
+
+      pub called-not-said : (l .set ≡ set → ⊥) → Called 14 old
+      unfolding output
+      called-not-said s = let number = number-not-said s in (number, (rw (sym number), λ z. absurd (omega arith)))

@@ -1,2 +1,3 @@
-// The table's numbers, which one a call returns, and what it leaves then. Definitions, laws and constants; no function.
+// The table's numbers, which one a call returns, and what it leaves then; the sizes of the sets. Definitions, laws and constants; no function.
+pub mod sizes;
 pub mod table;
