@@ -14,6 +14,7 @@ use linear::products::circulant_product;
 use numbers::table::DONE;
 use numbers::table::NO_SET;
 use numbers::table::WRONG_LENGTH;
+use pair_frames::frame::code_bytes;
 use pair_frames::sets::is_set;
 use pair_frames::sets::sizes_of;
 use pair_frames::sizes::Sizes;
@@ -50,7 +51,7 @@ fn evaluate_sized(sizes: Sizes, key: &[u8], label: &[u8], file: &[u8], out: &mut
     if label.len() != sizes.key_bytes {
         return WRONG_LENGTH;
     }
-    if out.len() < 2 * ((sizes.digits + 7) / 8) {
+    if out.len() < code_bytes(sizes) {
         return WRONG_LENGTH;
     }
     let number = file_number(sizes, file);

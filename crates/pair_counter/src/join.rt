@@ -24,6 +24,7 @@ use numbers::table::UNFIT_TRIT;
 use numbers::table::UNUSED_BIT;
 use numbers::table::WRONG_LENGTH;
 use pair_frames::frame::SHARE;
+use pair_frames::frame::code_bytes;
 use pair_frames::frame::header_number;
 use pair_frames::frame::read_header;
 use pair_frames::header::Header;
@@ -50,7 +51,7 @@ fn share_of(sizes: Sizes, f: &[u8]) -> &[u8]
     requires { ⌜ Fits sizes × (length (now f) ≡ frameBytes (schemeIn sizes) shareKind) ⌝ }
     ensures { λ r. ⌜ now r ≡ take (codeBytes (schemeIn sizes)) (bodyOf (now (f .entry))) ⌝ }
 {
-    &f[HEADER_BYTES..HEADER_BYTES + 2 * ((sizes.digits + 7) / 8)]
+    &f[HEADER_BYTES..HEADER_BYTES + code_bytes(sizes)]
 }
 
 // The number of one share frame's share: 10 before 11.
@@ -77,7 +78,7 @@ fn join_number(sizes: Sizes, f: &[u8], g: &[u8], room: usize) -> u32
     requires { ⌜ Fits sizes ⌝ }
     ensures { λ n. ⌜ n ≡ joinNumber (schemeIn sizes) (now (f .entry)) (now (g .entry)) room ⌝ }
 {
-    if room < 2 * ((sizes.digits + 7) / 8) {
+    if room < code_bytes(sizes) {
         return WRONG_LENGTH;
     }
     let p = read_header(sizes, f, SHARE, SHARE);
@@ -122,7 +123,7 @@ pub fn add_shares(sizes: Sizes, first: &[u8], second: &[u8], out: &mut [u8])
     add_trits(
         share_of(sizes, first),
         share_of(sizes, second),
-        &mut out[..2 * ((sizes.digits + 7) / 8)],
+        &mut out[..code_bytes(sizes)],
     );
 }
 

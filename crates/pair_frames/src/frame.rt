@@ -3,7 +3,7 @@ ghost use mathlib.Core.Path.{_≡_};
 ghost use mathlib.Core.List.{_++_};
 ghost use Prim.Native.Nat.{_+_, _≤_};
 ghost use lib.ListN.{length, drop};
-ghost use Rattle.pair_model.specs.Frame.{parameters, header, headerBytes, frame, sideOf, sessionOf, frameBytes};
+ghost use Rattle.pair_model.specs.Frame.{parameters, header, headerBytes, frame, sideOf, sessionOf, codeBytes, frameBytes};
 ghost use Rattle.pair_model.specs.Header.{readHeader, headerNumber};
 ghost use Rattle.pair_frames.specs.Headers.{parametersIn, headerOf};
 ghost use Rattle.pair_frames.specs.Schemes.{schemeIn, Fits};
@@ -26,6 +26,14 @@ pub const MASK: u8 = 3;
 
 pub const SHARE: u8 = 4;
 
+// The bytes of a code.
+pub fn code_bytes(sizes: Sizes) -> usize
+    requires { ⌜ Fits sizes ⌝ }
+    ensures { λ r. ⌜ r ≡ codeBytes (schemeIn sizes) ⌝ }
+{
+    2 * ((sizes.digits + 7) / 8)
+}
+
 // The whole length of a frame, by its kind.
 pub fn frame_bytes(sizes: Sizes, kind: u8) -> usize
     requires { ⌜ Fits sizes ⌝ }
@@ -35,7 +43,7 @@ pub fn frame_bytes(sizes: Sizes, kind: u8) -> usize
         DEAL => HEADER_BYTES + 2 * sizes.key_bytes + 3 * sizes.inner_bytes,
         OPEN => HEADER_BYTES + 2 * sizes.key_bytes,
         MASK => HEADER_BYTES + sizes.inner_bytes,
-        SHARE => HEADER_BYTES + 2 * ((sizes.digits + 7) / 8),
+        SHARE => HEADER_BYTES + code_bytes(sizes),
         _ => HEADER_BYTES,
     }
 }

@@ -132,18 +132,17 @@ module _ (S : Scheme) (f g : List ℕ) where
           (λ a b. let w = both-whole a b in absurd (x (w .0) (w .1)))
           ∙ sym (first-pass 1 (ltb n (codeBytes S)) _ (le-ltb n (codeBytes S) h))
 
--- the code, over the front of d
-pub join-written : (S : Scheme) (f g d o : List ℕ) → length f ≡ frameBytes S shareKind → length g ≡ frameBytes S shareKind → codeBytes S ≤ length d → let n = codeBytes S in
-    o ≡ addTrits (length (take n d) / 2) (take n (drop headerBytes f)) (take n (drop headerBytes g)) ++ drop (2 * (length (take n d) / 2)) (take n d)
+-- the code, over the front of d, which has the n bytes of a code
+pub join-written : (S : Scheme) (f g d o : List ℕ) {n : ℕ} → n ≡ codeBytes S → length f ≡ frameBytes S shareKind → length g ≡ frameBytes S shareKind → codeBytes S ≤ length d
+    → o ≡ addTrits (length (take n d) / 2) (take (codeBytes S) (drop headerBytes f)) (take (codeBytes S) (drop headerBytes g)) ++ drop (2 * (length (take n d) / 2)) (take n d)
     → o ++ drop n d ≡ output 0 (joined S f g) d
 unfolding output joined addTrits
-join-written S f g d o lf lg h e =
+join-written S f g d o {n} is lf lg h e =
     let p = planeBytes (S .digits) in
-    let n = codeBytes S in
-    let l : length (take n d) ≡ n = length-take-le n d h in
-    let q : length (take n d) / 2 ≡ p = half S (take n d) l in
+    let l : length (take n d) ≡ n = length-take-le n d (omega (arith, is, h)) in
+    let q : length (take n d) / 2 ≡ p = half S (take n d) (l ∙ is) in
     let c : List ℕ = addTrits p (drop headerBytes f) (drop headerBytes g) in
     let m : o ≡ c =
     e ∙ (λ i. addTrits (q i) (share-body S f lf i) (share-body S g lg i) ++ drop (2 * q i) (take n d))
-    ∙ ap (λ (x : List ℕ). c ++ x) (drop-of-length-le (take n d) {i = n} (omega arith)) ∙ append-nil c in
-    (λ i. m i ++ drop (sym (length-packTrits p (sumTrit p (drop headerBytes f) (drop headerBytes g))) i) d)
+    ∙ ap (λ (x : List ℕ). c ++ x) (drop-of-length-le (take n d) {i = 2 * p} (omega (arith, l, is))) ∙ append-nil c in
+    (λ i. m i ++ drop ((is ∙ sym (length-packTrits p (sumTrit p (drop headerBytes f) (drop headerBytes g)))) i) d)

@@ -1,7 +1,7 @@
 -- `pair_counter::join::join_number` meets its contract: its tests are those of the headers that were read.
-use mathlib.Core.Path.{_≡_, sym, ap, _∙_}
+use mathlib.Core.Path.{_≡_, sym, ap, subst, _∙_}
 use mathlib.Core.List.{List}
-use Prim.Native.Nat.{ℕ, _≤_}
+use Prim.Native.Nat.{ℕ, _<_, _≤_}
 use native.Mathlib.Omega.{arith}
 use borrow.Author.Needs.{needs}
 use borrow.Author.Tests.{le-ltb, eq-eqb, ne-eqb}
@@ -39,8 +39,14 @@ second-read : (c : tie.After-q)
     ≡ fields (c .q .given .0 .0) (c .q .given .0 .1 .0) (c .q .given .0 .1 .1 .0) (c .q .given .0 .1 .1 .1 .0)
 second-read c = sym (c .before .before .before .before .before .before .before .before .read-header2 .ensures) ∙ ap headerOf (c .q .given .1)
 
+-- there is room for a code
+room : (c : tie.After-read-header) → codeBytes (schemeIn (c .before .before .before .before .before .args .sizes)) ≤ c .before .before .before .before .before .args .room
+room c = subst (λ (n : ℕ). n ≤ c .before .before .before .before .before .args .room) (c .before .before .code-bytes .ensures) (c .before .if1 .left)
+
 returns : tie.Need-returns
-returns c = join-room (schemeIn (c .before .before .before .before .args .sizes)) _ _ _ (c .if1 .taken)
+returns c =
+    let a = c .before .before .before .before .args in
+    join-room (schemeIn (a .sizes)) _ _ _ (subst (λ (n : ℕ). a .room < n) (c .before .code-bytes .ensures) (c .if1 .taken))
 
 returns-2 : tie.Need-returns-2
 returns-2 c =
@@ -48,7 +54,7 @@ returns-2 c =
     let h = l .before .before .before .before in
     let S = schemeIn (h .before .before .before .before .before .args .sizes) in
     lowest l
-    ∙ join-refused S _ _ _ (h .before .if1 .left)
+    ∙ join-refused S _ _ _ (room h)
     (λ w v. not-whole S shareKind shareKind _ (sym (h .read-header .ensures) ∙ ap headerOf (c .enum-told .given .1)) w)
 
 returns-3 : tie.Need-returns-3
@@ -57,18 +63,15 @@ returns-3 c =
     let h = l .before .before .before in
     let S = schemeIn (h .before .before .before .before .before .before .args .sizes) in
     lowest l
-    ∙ join-refused S _ _ _ (h .before .before .if1 .left)
+    ∙ join-refused S _ _ _ (room (h .before))
     (λ w v. not-whole S shareKind shareKind _ (sym (h .read-header2 .ensures) ∙ ap headerOf (c .enum-told2 .given .1)) v)
-
-room : (c : tie.After-p) → codeBytes (schemeIn (c .before .before .before .before .before .before .before .before .before .before .before .args .sizes)) ≤ c .before .before .before .before .before .before .before .before .before .before .before .args .room
-room c = c .before .before .before .before .before .before .before .if1 .left
 
 returns-4 : tie.Need-returns-4
 unfolding first joinConditions
 returns-4 c =
     let q = c .before .before in
     let p = q .before .before .before in
-    simp (le-ltb _ _ (room p), first-read p, second-read q, ne-eqb _ _ (c .if2 .taken))
+    simp (le-ltb _ _ (room (p .before .before .before .before .before .before)), first-read p, second-read q, ne-eqb _ _ (c .if2 .taken))
 
 returns-5 : tie.Need-returns-5
 unfolding first joinConditions
@@ -76,7 +79,7 @@ returns-5 c =
     let i = c .before in
     let q = i .before .before in
     let p = q .before .before .before in
-    simp (le-ltb _ _ (room p), first-read p, second-read q, eq-eqb _ _ (i .if2 .left), ne-eqb _ _ (c .if3 .taken))
+    simp (le-ltb _ _ (room (p .before .before .before .before .before .before)), first-read p, second-read q, eq-eqb _ _ (i .if2 .left), ne-eqb _ _ (c .if3 .taken))
 
 returns-6 : tie.Need-returns-6
 unfolding first joinConditions
@@ -84,7 +87,7 @@ returns-6 c =
     let i = c .before .before in
     let q = i .before .before in
     let p = q .before .before .before in
-    simp (le-ltb _ _ (room p), first-read p, second-read q, eq-eqb _ _ (i .if2 .left), eq-eqb _ _ (c .before .if3 .left), ne-eqb _ _ (c .if4 .taken))
+    simp (le-ltb _ _ (room (p .before .before .before .before .before .before)), first-read p, second-read q, eq-eqb _ _ (i .if2 .left), eq-eqb _ _ (c .before .if3 .left), ne-eqb _ _ (c .if4 .taken))
 
 -- a frame whose fields were read has its kind's length
 long : (S : Scheme) (f : List ℕ) {kind side session body : ℕ} → shareRead S f ≡ fields kind side session body → length f ≡ frameBytes S shareKind
@@ -113,14 +116,13 @@ returns-7 c =
     let S = schemeIn (a .sizes) in
     c .lower2 .ensures ∙ (λ k. lowerOf (c .before .before .share-number .ensures k) (c .before .share-number2 .ensures k))
     ∙ share-numbers S (a .f .now) (a .g .now) (long S _ (first-read p)) (long S _ (second-read q))
-    ∙ simp (le-ltb _ _ (room p), first-read p, second-read q, eq-eqb _ _ (i .if2 .left), eq-eqb _ _ (j .before .if3 .left), eq-eqb _ _ (j .if4 .left))
+    ∙ simp (le-ltb _ _ (room (p .before .before .before .before .before .before)), first-read p, second-read q, eq-eqb _ _ (i .if2 .left), eq-eqb _ _ (j .before .if3 .left), eq-eqb _ _ (j .if4 .left))
 
 pub join-number-spec : {M : Type 1} → statement M
 join-number-spec =
     tie.close
     (tie.spec
-    (λ c. omega (arith, c .before .before .before .pre .share, c .before .before .before .pre .key))
-    (λ c. omega (arith, c .before .before .before .pre .share, c .before .before .before .pre .key))
+    (λ c κs. c .before .before .pre)
     returns
     (λ c κs. c .before .before .before .before .pre)
     (λ c κs. c .before .before .before .before .before .pre)

@@ -21,7 +21,7 @@ returns-3 : tie.Need-returns-3
 returns-3 c = rw (c .before .match .keys3) (omega arith)
 
 returns-4 : tie.Need-returns-4
-returns-4 c = rw (c .before .match .keys4) (omega arith)
+returns-4 c = rw (c .before .match .keys4, c .code-bytes .ensures) (omega arith)
 
 returns-5 : tie.Need-returns-5
 returns-5 c = rest (schemeIn (c .before .args .sizes)) (c .before .args .kind) (c .match .rest .0 .0 .0 .1) (c .match .rest .0 .0 .1) (c .match .rest .0 .1) (c .match .rest .1)
@@ -45,8 +45,7 @@ frame-bytes-spec =
     (λ c. search needs)
     (λ c. search needs)
     (λ c. search needs)
-    (λ c. search needs)
-    (λ c. search needs)
+    (λ c κs. c .before .pre)
     (λ c. search needs)
     returns
     returns-2
