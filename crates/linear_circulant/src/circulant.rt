@@ -6,7 +6,7 @@ ghost use Rattle.linear_model.specs.Tables.{sum, from};
 ghost use Rattle.linear_model.specs.Bits.{byteOf, fromBits, bit};
 ghost use Rattle.linear_model.specs.Products.{bitRow, circulant, circulantProduct};
 ghost use Rattle.linear_model.specs.Internal.Words.{shiftTerm};
-use crate::halves;
+use crate::quarters;
 use linear_rotations::rotations;
 use linear_words::bytes;
 use linear_words::bytes::byte_at;
@@ -58,7 +58,11 @@ pub fn circulant_product(key: &[u8], label: &[u8], out: &mut [u8])
 {
     let n = out.len();
     if n == 8 {
-        words::put_word(out, 0, halves::product(word_at(key, 0), word_at(label, 0)));
+        words::put_word(
+            out,
+            0,
+            quarters::product(word_at(key, 0), word_at(label, 0)),
+        );
         return;
     }
     if n % 8 == 0 && 8 < n && n <= 64 {

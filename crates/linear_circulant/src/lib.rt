@@ -1,3 +1,3 @@
 // The circulant product modulo 2.
 pub mod circulant;
-mod halves;
+mod quarters;

@@ -4,7 +4,7 @@ pub mod Thirds
 pub mod Circulant
 pub mod Overwriting
 pub mod Rotations
-pub mod Halves
+pub mod Quarters
 pub mod Planes
 pub mod Gathers
 pub mod Matrix

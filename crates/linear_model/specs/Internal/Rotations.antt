@@ -128,6 +128,6 @@ wordTerm k x i j = bitAt k j * bitAt x ((i + j) % 64)
 abbrev pub wordProduct : ℕ → ℕ → ℕ → ℕ
 wordProduct k x i = sum 64 (wordTerm k x i) % 2
 
--- bit i of both halves of a word added up
-abbrev pub halvesBit : ℕ → ℕ → ℕ
-halvesBit x i = (bitAt x i + bitAt x (32 + i)) % 2
+-- bit i of all quarters of a word added up
+abbrev pub quartersBit : ℕ → ℕ → ℕ
+quartersBit x i = (bitAt x i + bitAt x (16 + i) + bitAt x (32 + i) + bitAt x (48 + i)) % 2

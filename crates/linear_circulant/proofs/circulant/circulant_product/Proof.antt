@@ -1,10 +1,10 @@
--- `linear_circulant::circulant::circulant_product` meets its contract. One word goes by halves, up to eight by rotations; other lengths go row by row.
+-- `linear_circulant::circulant::circulant_product` meets its contract. One word goes by quarters, up to eight by rotations; other lengths go row by row.
 use mathlib.Core.Path.{_≡_, _∙_}
 use native.Mathlib.Omega.{arith}
 use borrow.Author.Tests.{eqb-true, ltb-true, leb-true}
 use borrow.Author.Needs.{needs}
 use lib.ListN.{length}
-use Rattle.linear_model.proofs.Internal.Halves.{word-product-stored}
+use Rattle.linear_model.proofs.Internal.Quarters.{word-product-stored}
 use Rattle.linear_circulant.proofs.circulant.circulant_product.Statement.{statement}
 use Rattle.linear_circulant.proofs.circulant.circulant_product.Tie as tie
 
