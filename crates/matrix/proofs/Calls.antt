@@ -20,23 +20,23 @@ module _ (set : ℕ) {l : Layout} (e : l ≡ layoutOf (counted set)) where
   says = ap (λ (l : Layout). l .set) e
 
   -- it says the number that was named just where that is a set
-  is-said : l .set ≡ set → isSet set ≡ true
-  is-said h = own-number set (sym says ∙ h)
+  set-named : l .set ≡ set → isSet set ≡ true
+  set-named h = own-number set (sym says ∙ h)
 
-  not-said : (l .set ≡ set → ⊥) → isSet set ≡ false
-  not-said h = other-number set (λ s. h (says ∙ s))
+  none-named : (l .set ≡ set → ⊥) → isSet set ≡ false
+  none-named h = other-number set (λ s. h (says ∙ s))
 
   -- and is then its layout
   named-layout : l .set ≡ set → l ≡ layoutOf set
-  named-layout h = e ∙ ap layoutOf (counted-is set (is-said h))
+  named-layout h = e ∙ ap layoutOf (counted-is set (set-named h))
 
   -- the number, by the conditions with a layout
   module _ (cs : Layout → List Condition) where
-    pub number-said : l .set ≡ set → {r : ℕ} → r ≡ first (cs l) → r ≡ numberIn set (cs (layoutOf set))
-    number-said h = number-of set (is-said h) (named-layout h) cs
+    pub number-of-set : l .set ≡ set → {r : ℕ} → r ≡ first (cs l) → r ≡ numberIn set (cs (layoutOf set))
+    number-of-set h = number-of set (set-named h) (named-layout h) cs
 
-    pub number-not-said : (l .set ≡ set → ⊥) → 14 ≡ numberIn set (cs (layoutOf set))
-    number-not-said h = sym (number-none set (cs (layoutOf set)) (not-said h))
+    pub number-of-none : (l .set ≡ set → ⊥) → 14 ≡ numberIn set (cs (layoutOf set))
+    number-of-none h = sym (number-none set (cs (layoutOf set)) (none-named h))
 
     -- with the bytes that are written, and what holds of those
     module _ (bytes : Layout → List ℕ) (holds : Layout → List ℕ → Type 0) (old : List ℕ) where
@@ -45,13 +45,13 @@ module _ (set : ℕ) {l : Layout} (e : l ≡ layoutOf (counted set)) where
           let number = numberIn set (cs (layoutOf set)) in
           (r ≡ number) × ((new ≡ output number (bytes (layoutOf set)) old) × (r ≡ 0 → holds (layoutOf set) new))
 
-      pub called-said : l .set ≡ set → {r : ℕ} {new : List ℕ}
+      pub called-of-set : l .set ≡ set → {r : ℕ} {new : List ℕ}
           → (r ≡ first (cs l)) × ((new ≡ output (first (cs l)) (bytes l) old) × (r ≡ 0 → holds l new)) → Called r new
-      called-said s {r} {new} h =
+      called-of-set s {r} {new} h =
           let is = named-layout s in
-          let number = number-said s refl in
+          let number = number-of-set s refl in
           (h .0 ∙ number, (h .1 .0 ∙ (λ j. output (number j) (bytes (is j)) old), λ z. subst (λ (l : Layout). holds l new) is (h .1 .1 z)))
 
-      pub called-not-said : (l .set ≡ set → ⊥) → Called 14 old
+      pub called-of-none : (l .set ≡ set → ⊥) → Called 14 old
       unfolding output
-      called-not-said s = let number = number-not-said s in (number, (rw (sym number), λ z. absurd (omega arith)))
+      called-of-none s = let number = number-of-none s in (number, (rw (sym number), λ z. absurd (omega arith)))

@@ -95,10 +95,6 @@ module _ (layout : Layout) (fits : Fits layout) where
 
   -- ---- rows
 
-  -- row i stands in block i / blockRows, at place i % blockRows
-  pub row-block : (i : ℕ) → i < layout .rowCount → i / layout .blockRows < blockCount layout
-  row-block i l = part-before (layout .blockRows) (blockCount layout) i (fits .some-rows) (omega (arith, covered))
-
   -- byte k of the rows of block b is byte 4 + k of that block
   pub row-byte : (file : List ℕ) (b k : ℕ) → k < layout .rowBytes * layout .blockRows
       → rowByte layout file (layout .rowBytes * layout .blockRows * b + k) ≡ getD file (512 * b + 4 + k) 0

@@ -9,7 +9,7 @@ use Rattle.numbers.specs.Number.{Condition, first, output, reported}
 use Rattle.numbers.specs.Lowest.{Rising}
 use Rattle.numbers.proofs.Numbers.{holds}
 use Rattle.numbers.proofs.Lowest.{first-lowest}
-use Rattle.numbers.specs.Sets.{isSet, counted, named, numberIn, LowestIn}
+use Rattle.numbers.specs.Sets.{isSet, counted, numberIn, LowestIn}
 
 -- what holds of sets 1, 2 and 3
 pub each : (P : ℕ → Type 0) → P 1 → P 2 → P 3 → (set : ℕ) → isSet set ≡ true → P set
@@ -84,9 +84,9 @@ module _ (set : ℕ) (i : isSet set ≡ true) {A : Type 0} {x y : A} (e : x ≡ 
     called-in h = (number-of (h .0), h .1 ∙ ap (λ (z : A). output r (bytes z) old) e)
 
     -- and a count
-    pub counted-in : (count : A → ℕ) {m : ℕ} → (r ≡ first (cs x)) × ((m ≡ reported r (count x)) × (new ≡ output r (bytes x) old))
+    pub reported-in : (count : A → ℕ) {m : ℕ} → (r ≡ first (cs x)) × ((m ≡ reported r (count x)) × (new ≡ output r (bytes x) old))
         → (r ≡ numberIn set (cs y)) × ((m ≡ reported r (count y)) × (new ≡ output r (bytes y) old))
-    counted-in count h =
+    reported-in count h =
         let all = called-in (h .0, h .1 .1) in
         (all .0, (h .1 .0 ∙ ap (λ (z : A). reported r (count z)) e, all .1))
 
@@ -96,6 +96,6 @@ module _ (set : ℕ) (i : isSet set ≡ false) (cs : List Condition) (bytes old 
   unfolding output
   called-none = (sym (number-none set cs i), refl)
 
-  pub counted-none : (count : ℕ) {r m : ℕ} → (r ≡ 14) × (m ≡ 0) → (r ≡ numberIn set cs) × ((m ≡ reported r count) × (old ≡ output r bytes old))
+  pub reported-none : (count : ℕ) {r m : ℕ} → (r ≡ 14) × (m ≡ 0) → (r ≡ numberIn set cs) × ((m ≡ reported r count) × (old ≡ output r bytes old))
   unfolding output reported
-  counted-none count h = (h .0 ∙ called-none .0, (h .1 ∙ rw (h .0), rw (h .0)))
+  reported-none count h = (h .0 ∙ called-none .0, (h .1 ∙ rw (h .0), rw (h .0)))

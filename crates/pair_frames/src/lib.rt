@@ -1,4 +1,4 @@
-// Frames: their lengths, their headers and the fields of their bodies.
+// Frames: their lengths, by set, their headers and the fields of their bodies.
 pub mod copies;
 pub mod fields;
 pub mod frame;

@@ -1,4 +1,4 @@
-// All lengths and places, in this one place: the sizes of the three sets, what every set has alike, and what follows from set 1's, which is
+// All lengths and places, in this one place: those of the three sets, what every set has alike, and what follows from set 1's, which is
 // document 01's. The matrix file's are those of its layer.
 pub use matrix_model::sizes::CODE_BYTES;
 pub use matrix_model::sizes::FILE_BYTES;

@@ -12,7 +12,7 @@ use Rattle.pair_frames.specs.Schemes.{schemeIn, Fits}
 use Rattle.pair_model.specs.Scheme.{concat}
 use Rattle.pair_model.specs.Frame.{Parameters, header}
 use Rattle.pair_model.specs.StateSlice.{inRoom, rooms, stateHeader, stateHeaderBytes, stateBytes, roomPlace, inFront}
-use Rattle.pair_model.proofs.Internal.Encodings.{Roomy}
+use Rattle.pair_model.proofs.Internal.Encodings.{HasRoom}
 use Rattle.pair_model.proofs.Internal.Fields.{field-at}
 use Rattle.pair_model.proofs.Internal.FieldCopies.{FieldsCopied, fields-none, fields-more, fields-front}
 
@@ -112,5 +112,5 @@ unfolding stateHeader header
 header-first set t stage d o l e = fields-more (fields-none {d = d}) stateHeaderBytes (stateHeader set t stage) o refl (omega arith) e
 
 -- strings of sizes that fit have room
-pub roomy-in : (z : Sizes) → Fits z → Roomy (schemeIn z)
+pub roomy-in : (z : Sizes) → Fits z → HasRoom (schemeIn z)
 roomy-in z h = record { key = h .key; inner = h .inner }

@@ -1,13 +1,13 @@
 -- A slice whose header and halves, deal and own mask are written in turn is the state of these.
 use mathlib.Core.Path.{_≡_, refl, sym, ap, _∙_}
 use mathlib.Core.List.{List, [], _∷_, _++_}
-use Prim.Native.Nat.{ℕ, _+_, _≤_}
+use Prim.Native.Nat.{ℕ, _+_, _*_, _≤_}
 use native.Mathlib.Omega.{arith}
 use lib.ListN.{length, take, drop, length-append, length-take}
 use Rattle.pair_model.specs.Scheme.{concat}
 use Rattle.pair_model.specs.Frame.{Parameters, header}
 use Rattle.pair_model.specs.Unit.{Secrets, state}
-use Rattle.pair_model.specs.StateSlice.{stringRoom, tritsRoom, inRoom, roomPlace, stateHeader, stateBytes, encodeState}
+use Rattle.pair_model.specs.StateSlice.{stringRoom, tritsRoom, inRoom, roomPlace, stateHeader, stateHeaderBytes, stateBytes, encodeState}
 use Rattle.pair_model.proofs.Internal.FieldCopies.{FieldsCopied, fields-more, fields-all}
 use Rattle.pair_rooms.proofs.InTurn.{length-room, behind-fields}
 use Rattle.pair_states.proofs.Blank.{concat-append}
@@ -16,16 +16,16 @@ use Rattle.pair_states.proofs.Blank.{concat-append}
 pub front-fits : (s : List ℕ) (n room : ℕ) → n ≤ room → length (take n s) ≤ room
 front-fits s n room h = rw length-take (omega arith)
 
-header-long : (set : ℕ) (t : Parameters) (stage : ℕ) → length (stateHeader set t stage) ≡ 7
+header-long : (set : ℕ) (t : Parameters) (stage : ℕ) → length (stateHeader set t stage) ≡ stateHeaderBytes
 unfolding stateHeader header
 header-long set t stage = refl
 
 -- strings that fit fill their rooms
-two-long : (a k l : List ℕ) → length a ≡ 7 → length k ≡ stringRoom → length l ≡ stringRoom → length (concat (a ∷ k ∷ l ∷ [])) ≡ roomPlace 2
+two-long : (a k l : List ℕ) → length a ≡ stateHeaderBytes → length k ≡ stringRoom → length l ≡ stringRoom → length (concat (a ∷ k ∷ l ∷ [])) ≡ roomPlace 2
 unfolding concat
 two-long a k l e f g = omega (arith, length-append a (k ++ (l ++ [])), length-append k (l ++ []), length-append {A = ℕ} l [])
 
-four-long : (a b c d : List ℕ) → length a ≡ stringRoom → length b ≡ stringRoom → length c ≡ stringRoom → length d ≡ tritsRoom → length (concat (a ∷ b ∷ c ∷ d ∷ [])) ≡ 320
+four-long : (a b c d : List ℕ) → length a ≡ stringRoom → length b ≡ stringRoom → length c ≡ stringRoom → length d ≡ tritsRoom → length (concat (a ∷ b ∷ c ∷ d ∷ [])) ≡ 3 * stringRoom + tritsRoom
 unfolding concat
 four-long a b c d e f g h =
     omega (arith, length-append a (b ++ (c ++ (d ++ []))), length-append b (c ++ (d ++ [])), length-append c (d ++ []), length-append {A = ℕ} d [])

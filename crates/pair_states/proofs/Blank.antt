@@ -11,7 +11,7 @@ use Rattle.pair_model.specs.Scheme.{Scheme, layoutBytes, concat}
 use Rattle.pair_model.specs.Frame.{Parameters}
 use Rattle.pair_model.specs.Unit.{state, nothing}
 use Rattle.pair_model.specs.StateSlice.{stringRoom, tritsRoom, rooms, stateHeader, encodeState}
-use Rattle.pair_model.proofs.Internal.Encodings.{Roomy}
+use Rattle.pair_model.proofs.Internal.Encodings.{HasRoom}
 use Rattle.pair_model.proofs.Internal.FieldCopies.{FieldsCopied, fields-front}
 
 -- zeros for rooms of these sizes
@@ -43,7 +43,7 @@ then-blank {d} {k} {fields} {o} h sizes o′ l e =
     ∙ ap (λ (t : List ℕ). concat fields ++ t) (concat-blank sizes) ∙ concat-append fields (blank sizes)
 
 -- a state with zeros for all but its header
-pub encode-nothing : (S : Scheme) → Roomy S → (set : ℕ) (t : Parameters) (stage : ℕ)
+pub encode-nothing : (S : Scheme) → HasRoom S → (set : ℕ) (t : Parameters) (stage : ℕ)
     → stateHeader set t stage ++ zeros (layoutBytes rooms) ≡ encodeState (state set t stage (nothing S))
 unfolding encodeState
 encode-nothing S r set t stage =

@@ -55,7 +55,7 @@ pub fn with_halves(
     }
 }
 
-// Zeros for all but the parameters and the stage.
+// Zeros for all but the set, the parameters and the stage.
 pub fn cleared(sizes: Sizes, parameters: Parameters, stage: u8) -> UnitState
     requires { ⌜ Fits sizes ⌝ }
     ensures { λ u. ⌜ u ≡ unitOf (state (sizes .set) (parametersIn parameters) stage (nothing (schemeIn sizes))) ⌝ }

@@ -3,7 +3,6 @@ use mathlib.Core.Path.{_≡_, refl, sym, ap, ap₂, _∙_}
 use mathlib.Core.List.{List}
 use Prim.Native.Nat.{ℕ, zero, suc, _+_, _-_, _*_, _/_, _%_, _^_, _<_, _≤_}
 use native.Mathlib.Nat.{zero-add, add-comm, mul-zero, mul-suc, mul-le-mul-left, mod-eq-of-lt, add-mod-right, mod-add-mod}
-use native.Mathlib.Numerals.{add-one}
 use native.Mathlib.Decide.{decLt}
 use native.Mathlib.Omega.{arith}
 use lib.Bits.{bitXor, bitAnd, xor-lt, and-le-l}
@@ -16,7 +15,7 @@ use Rattle.linear_model.specs.Products.{bitTerm, bitRow, bitProduct, cir
 use Rattle.linear_model.specs.Internal.Rotations.{Bits, Words, Overwritten, wordOf, closed, rotatedAt, addedAt, maskAt, Masks, maskTerm, added, Added, addedRow, addedRows, AddedRows, keyTerm, keyRow, stepped, Stepped, around, Rows, Factors, hornerTerm, hornerColumn, horner}
 use Rattle.linear_model.proofs.Tables.{every-at, same₁}
 use Rattle.linear_model.proofs.NumberBits.{from-bits-none, from-bits-ext, from-bits-lt, from-bits-of, bit-at-from-bits, bit-at-xor, bit-at-and}
-use Rattle.linear_model.proofs.Sums.{sum-more, sum-split, sum-front, sum-ext, sum-zero}
+use Rattle.linear_model.proofs.Sums.{sum-more, sum-split, sum-ext, sum-zero}
 use Rattle.linear_model.proofs.Strings.{bit-lt, pack-ext, getD-zeros}
 use Rattle.linear_model.proofs.WordBits.{window-is}
 use Rattle.linear_model.proofs.Internal.Circulant.{around-once}

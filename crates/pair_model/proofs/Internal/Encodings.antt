@@ -33,11 +33,11 @@ bytes-room room {n} {s} l h =
     record { size = all .size ∙ (omega (arith, h .size)); small = all .small }
 
 -- a scheme whose strings have room in a slice
-pub record Roomy (S : Scheme) : Type 0 where
+pub record HasRoom (S : Scheme) : Type 0 where
   pub key : S .keyBytes ≤ stringRoom
   pub inner : S .innerBytes ≤ stringRoom
 
-module _ (S : Scheme) (roomy : Roomy S) (u : State) (h : Sized S u) where
+module _ (S : Scheme) (roomy : HasRoom S) (u : State) (h : Sized S u) where
   pub laid-secrets : Laid rooms (inRooms (u .secrets))
   laid-secrets =
       let n = roomy .key in

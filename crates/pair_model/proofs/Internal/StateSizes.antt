@@ -25,7 +25,7 @@ use Rattle.pair_model.proofs.Theorem.MaskLaws.{bytes-mask-of}
 use Rattle.pair_model.proofs.Theorem.StepLaws.{numberFor, step-accepted, step-result, step-refused, fits}
 use Rattle.pair_model.proofs.Theorem.ShareLaws.{bytes-code}
 use Rattle.pair_model.proofs.Internal.Begins.{begin-fits}
-use Rattle.pair_model.proofs.Internal.Encodings.{Roomy, laid-secrets, decode-encode, set-encoded}
+use Rattle.pair_model.proofs.Internal.Encodings.{HasRoom, laid-secrets, decode-encode, set-encoded}
 
 -- ---- frames and slices
 
@@ -46,7 +46,7 @@ pub bytes-frame : (kind : ℕ) (t : Parameters) {n : ℕ} {body : List ℕ} → 
 unfolding frame
 bytes-frame kind t hk hs h = bytes-append (bytes-header kind t hk hs) h
 
-module _ (S : Scheme) (roomy : Roomy S) where
+module _ (S : Scheme) (roomy : HasRoom S) where
   -- the bytes of a state that a slice can hold
   bytes-of-state : (u : State) → u .set < 256 → Sized S u → Bytes stateBytes (encodeState u)
   unfolding encodeState stateHeader
@@ -206,10 +206,10 @@ module _ (S : Scheme) where
 
 -- ---- in each set
 
-roomy : (set : ℕ) → isSet set ≡ true → Roomy (schemeOf set)
-roomy = each (λ set. Roomy (schemeOf set)) (by 1 tt) (by 2 tt) (by 3 tt)
+roomy : (set : ℕ) → isSet set ≡ true → HasRoom (schemeOf set)
+roomy = each (λ set. HasRoom (schemeOf set)) (by 1 tt) (by 2 tt) (by 3 tt)
   where
-    by : (set : ℕ) → T (leb (setBits set / 8) stringRoom) → Roomy (schemeOf set)
+    by : (set : ℕ) → T (leb (setBits set / 8) stringRoom) → HasRoom (schemeOf set)
     by set h = record { key = lit≤ h; inner = lit≤ h }
 
 pub bytes-encoded : (u : State) → SizedState u → Bytes stateBytes (encodeState u)

@@ -55,4 +55,4 @@ pub set-linear : (set : ℕ) → Linear (schemeOf set)
 set-linear set = circulant-linear set (setBits set / 8) (setDigits set) (blockFormat (layoutOf set))
 
 pub set-demand3 : (set : ℕ) → Demand3 (protocol (schemeOf set))
-set-demand3 set = demand3 (schemeOf set) (set-linear set)
+set-demand3 set = circulant-demand3 set (setBits set / 8) (setDigits set) (blockFormat (layoutOf set))

@@ -1,5 +1,5 @@
 -- `linear_rotations::rotations::read_label` meets its contract. The label's words twice over and the first again, and then one rotation after the other.
-use mathlib.Core.Path.{_≡_, _∙_}
+use mathlib.Core.Path.{_∙_}
 use native.Mathlib.Omega.{arith}
 use borrow.Author.Needs.{needs}
 use lib.Dec.{lit<}

@@ -2,7 +2,7 @@
 use native.Mathlib.Omega.{arith}
 use Rattle.matrix_model.specs.Block.{Layout}
 use Rattle.matrix_model.specs.File.{checkConditionsOf, checkNumber}
-use Rattle.matrix.proofs.Calls.{counted-fits, number-said, number-not-said}
+use Rattle.matrix.proofs.Calls.{counted-fits, number-of-set, number-of-none}
 use Rattle.matrix.proofs.file.matrix_check.Statement.{statement}
 use Rattle.matrix.proofs.file.matrix_check.Tie as tie
 
@@ -11,14 +11,14 @@ unfolding checkNumber
 returns c =
     let l = c .before .before in
     let a = l .before .before .args in
-    number-not-said (a .set) (l .layout-of .ensures) (λ (x : Layout). checkConditionsOf x (a .file .now)) (c .if1 .taken)
+    number-of-none (a .set) (l .layout-of .ensures) (λ (x : Layout). checkConditionsOf x (a .file .now)) (c .if1 .taken)
 
 returns-2 : tie.Need-returns-2
 unfolding checkNumber
 returns-2 c =
     let l = c .before .before .before in
     let a = l .before .before .args in
-    number-said (a .set) (l .layout-of .ensures) (λ (x : Layout). checkConditionsOf x (a .file .now)) (c .before .if1 .left) (c .file-check .ensures)
+    number-of-set (a .set) (l .layout-of .ensures) (λ (x : Layout). checkConditionsOf x (a .file .now)) (c .before .if1 .left) (c .file-check .ensures)
 
 pub matrix-check-spec : {M : Type 1} → statement M
 matrix-check-spec =

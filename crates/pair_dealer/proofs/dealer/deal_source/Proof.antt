@@ -1,7 +1,7 @@
 -- `pair_dealer::dealer::deal_source` meets its contract: a set that there is has its sizes, and the theorems are the models'.
 use mathlib.Core.Path.{sym, _∙_}
 use lib.ListN.{length}
-use Rattle.numbers.proofs.Sets.{counted-in, counted-none}
+use Rattle.numbers.proofs.Sets.{reported-in, reported-none}
 use Rattle.source_model.specs.Disjoint.{DisjointDraws}
 use Rattle.source_model.proofs.Disjoint.{disjoint-draws}
 use Rattle.pair_frames.proofs.Bases.{counted-fits, named-scheme}
@@ -26,14 +26,14 @@ returns c =
     let k = z .before .before in
     let a = k .before .before .before .args in
     let i = sym (k .is-set .ensures) ∙ z .before .if1 .taken in
-    and-theorems (counted-in (a .set) i (named-scheme (a .set) (z .sizes-of .ensures) i) (λ (S : Scheme). dealSourceConditions S noFiles (a .source .now) (a .start) (length (a .out .now))) (λ S. dealt S (sharedParameters (a .session)) noFiles (sampled S (a .source .now) (a .start))) (a .out .now) (λ S. nextPair S (a .source .now) (a .start))
+    and-theorems (reported-in (a .set) i (named-scheme (a .set) (z .sizes-of .ensures) i) (λ (S : Scheme). dealSourceConditions S noFiles (a .source .now) (a .start) (length (a .out .now))) (λ S. dealt S (sharedParameters (a .session)) noFiles (sampled S (a .source .now) (a .start))) (a .out .now) (λ S. nextPair S (a .source .now) (a .start))
     (c .before .before .deal-source-sized .ensures))
 
 returns-2 : tie.Need-returns-2
 returns-2 c =
     let k = c .before .before in
     let a = k .before .before .before .args in
-    and-theorems (counted-none (a .set) (sym (k .is-set .ensures) ∙ c .before .if1 .left) _ _ (a .out .now) _ (c .refused .ensures))
+    and-theorems (reported-none (a .set) (sym (k .is-set .ensures) ∙ c .before .if1 .left) _ _ (a .out .now) _ (c .refused .ensures))
 
 pub deal-source-spec : {M : Type 1} → statement M
 deal-source-spec =

@@ -16,15 +16,15 @@ use Rattle.pair_model.specs.Scheme.{Scheme, field, concat}
 use Rattle.pair_model.specs.Tape.{dealLayout}
 use Rattle.pair_model.specs.Frame.{Parameters, parameters, openKind, frame, frameBytes, sideOf, sessionOf, bodyOf, headerBytes}
 use Rattle.pair_model.specs.Unit.{takeDeal}
-use Rattle.pair_model.specs.StateSlice.{stringRoom, tritsRoom, inRoom, inFront, rooms, roomPlace, stateHeader, stateBytes, encodeState, decodeAs}
-use Rattle.pair_model.proofs.Internal.Encodings.{Roomy}
+use Rattle.pair_model.specs.StateSlice.{stringRoom, tritsRoom, inRoom, inFront, rooms, roomPlace, stateHeader, stateHeaderBytes, stateBytes, encodeState, decodeAs}
+use Rattle.pair_model.proofs.Internal.Encodings.{HasRoom}
 use Rattle.pair_model.proofs.Internal.Lengths.{deal-length}
 use Rattle.pair_rooms.proofs.InTurn.{part-at, roomy-in}
 use Rattle.pair_slices.proofs.Whole.{front-fits, whole}
 use Rattle.pair_slices.proofs.slices.deal_in_place.Statement.{statement}
 use Rattle.pair_slices.proofs.slices.deal_in_place.Tie as tie
 
-module _ (S : Scheme) (roomy : Roomy S) (s f : List ℕ) (t : Parameters) (is : t ≡ parameters (sideOf s) (sessionOf s)) where
+module _ (S : Scheme) (roomy : HasRoom S) (s f : List ℕ) (t : Parameters) (is : t ≡ parameters (sideOf s) (sessionOf s)) where
   abbrev n : ℕ
   n = S .keyBytes
 
@@ -63,7 +63,7 @@ module _ (S : Scheme) (roomy : Roomy S) (s f : List ℕ) (t : Parameters) (is : 
   unfolding takeDeal decodeAs
   next o₁ o₂ o₃ l e₁ e₂ e₃ =
       whole (S .set) t openKind (inFront s 0 n) (inFront s 1 n) (deal 0) (deal 1) (deal 2) (deal 3) (zeros m)
-      (front-fits (field rooms 0 (drop 7 s)) n stringRoom (roomy .key)) (front-fits (field rooms 1 (drop 7 s)) n stringRoom (roomy .key)) s o₁ l e₁
+      (front-fits (field rooms 0 (drop stateHeaderBytes s)) n stringRoom (roomy .key)) (front-fits (field rooms 1 (drop stateHeaderBytes s)) n stringRoom (roomy .key)) s o₁ l e₁
       key-fits label-fits z-fits r-fits mask-fits o₂ o₃ e₂
       (e₃ ∙ ap (λ (z : List ℕ). take (roomPlace 6) o₂ ++ z ++ drop stateBytes o₂) (zeros-room m stringRoom (roomy .inner)))
       ∙ ap (λ (p : Parameters). encodeState (takeDeal S (record { set = S .set; parameters = p; stage = decodeAs S s .stage; secrets = decodeAs S s .secrets }) (bodyOf f) .next)) is

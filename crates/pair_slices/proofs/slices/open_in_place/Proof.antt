@@ -12,15 +12,15 @@ use Rattle.pair_frames.specs.Schemes.{schemeIn}
 use Rattle.pair_model.specs.Scheme.{noFiles, Scheme, field, concat}
 use Rattle.pair_model.specs.Frame.{Parameters, parameters, maskKind, header, frame, sideOf, sessionOf, bodyOf, headerBytes}
 use Rattle.pair_model.specs.Unit.{state, takeOpen}
-use Rattle.pair_model.specs.StateSlice.{stringRoom, tritsRoom, inRoom, inFront, rooms, roomPlace, stateHeader, stateBytes, encodeState, decodeAs}
-use Rattle.pair_model.proofs.Internal.Encodings.{Roomy}
+use Rattle.pair_model.specs.StateSlice.{stringRoom, tritsRoom, inRoom, inFront, rooms, roomPlace, stateHeader, stateHeaderBytes, stateBytes, encodeState, decodeAs}
+use Rattle.pair_model.proofs.Internal.Encodings.{HasRoom}
 use Rattle.pair_model.proofs.Theorem.MaskLaws.{bytes-mask-of}
 use Rattle.pair_rooms.proofs.InTurn.{front-behind, roomy-in}
 use Rattle.pair_slices.proofs.Whole.{front-fits, behind-halves, whole}
 use Rattle.pair_slices.proofs.slices.open_in_place.Statement.{statement}
 use Rattle.pair_slices.proofs.slices.open_in_place.Tie as tie
 
-module _ (S : Scheme) (roomy : Roomy S) (s f : List ℕ) (t : Parameters) (is : t ≡ parameters (sideOf s) (sessionOf s)) where
+module _ (S : Scheme) (roomy : HasRoom S) (s f : List ℕ) (t : Parameters) (is : t ≡ parameters (sideOf s) (sessionOf s)) where
   abbrev n : ℕ
   n = S .keyBytes
 
@@ -46,7 +46,7 @@ module _ (S : Scheme) (roomy : Roomy S) (s f : List ℕ) (t : Parameters) (is : 
 
   -- a string at the front of a room fits it
   fits : (i n room : ℕ) → n ≤ room → length (inFront s i n) ≤ room
-  fits i n room h = front-fits (field rooms i (drop 7 s)) n room h
+  fits i n room h = front-fits (field rooms i (drop stateHeaderBytes s)) n room h
 
   -- the slice afterwards is the state with its mask made
   next : (w o₁ o₂ o₃ : List ℕ) → length s ≡ stateBytes → w ≡ own

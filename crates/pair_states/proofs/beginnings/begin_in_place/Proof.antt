@@ -12,14 +12,14 @@ use Rattle.pair_model.specs.Scheme.{Scheme, concat}
 use Rattle.pair_model.specs.Frame.{Parameters, dealKind}
 use Rattle.pair_model.specs.Unit.{begun}
 use Rattle.pair_model.specs.StateSlice.{stringRoom, tritsRoom, inRoom, rooms, stateHeader, encodeState}
-use Rattle.pair_model.proofs.Internal.Encodings.{Roomy}
+use Rattle.pair_model.proofs.Internal.Encodings.{HasRoom}
 use Rattle.pair_rooms.proofs.InTurn.{header-first, room-more, roomy-in}
 use Rattle.pair_states.proofs.Blank.{blank, then-blank}
 use Rattle.pair_states.proofs.beginnings.begin_in_place.Statement.{statement}
 use Rattle.pair_states.proofs.beginnings.begin_in_place.Tie as tie
 
 -- halves and no deal
-encode-begun : (S : Scheme) → Roomy S → (t : Parameters) (key label : List ℕ)
+encode-begun : (S : Scheme) → HasRoom S → (t : Parameters) (key label : List ℕ)
     → concat (stateHeader (S .set) t dealKind ∷ inRoom stringRoom key ∷ inRoom stringRoom label ∷ blank (drop 2 rooms)) ≡ encodeState (begun S t key label)
 unfolding encodeState concat
 encode-begun S r t key label =
