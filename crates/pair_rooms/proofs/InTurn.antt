@@ -112,5 +112,5 @@ unfolding stateHeader header
 header-first set t stage d o l e = fields-more (fields-none {d = d}) stateHeaderBytes (stateHeader set t stage) o refl (omega arith) e
 
 -- strings of sizes that fit have room
-pub roomy-in : (z : Sizes) → Fits z → HasRoom (schemeIn z)
-roomy-in z h = record { key = h .key; inner = h .inner }
+pub has-room-in : (z : Sizes) → Fits z → HasRoom (schemeIn z)
+has-room-in z h = record { key = h .key; inner = h .inner }

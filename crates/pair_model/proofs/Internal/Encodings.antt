@@ -37,11 +37,11 @@ pub record HasRoom (S : Scheme) : Type 0 where
   pub key : S .keyBytes ≤ stringRoom
   pub inner : S .innerBytes ≤ stringRoom
 
-module _ (S : Scheme) (roomy : HasRoom S) (u : State) (h : Sized S u) where
+module _ (S : Scheme) (has-room : HasRoom S) (u : State) (h : Sized S u) where
   pub laid-secrets : Laid rooms (inRooms (u .secrets))
   laid-secrets =
-      let n = roomy .key in
-      let m = roomy .inner in (
+      let n = has-room .key in
+      let m = has-room .inner in (
         bytes-room stringRoom n (h .key),
         (
           bytes-room stringRoom n (h .label),

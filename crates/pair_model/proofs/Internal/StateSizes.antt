@@ -46,13 +46,13 @@ pub bytes-frame : (kind : ℕ) (t : Parameters) {n : ℕ} {body : List ℕ} → 
 unfolding frame
 bytes-frame kind t hk hs h = bytes-append (bytes-header kind t hk hs) h
 
-module _ (S : Scheme) (roomy : HasRoom S) where
+module _ (S : Scheme) (has-room : HasRoom S) where
   -- the bytes of a state that a slice can hold
   bytes-of-state : (u : State) → u .set < 256 → Sized S u → Bytes stateBytes (encodeState u)
   unfolding encodeState stateHeader
   bytes-of-state u l h =
       bytes-append (bytes-append (bytes-header (u .stage) (u .parameters) (h .stage) (h .side)) (bytes-one (u .set) l))
-      (bytes-concat rooms (inRooms (u .secrets)) (laid-secrets S roomy u h))
+      (bytes-concat rooms (inRooms (u .secrets)) (laid-secrets S has-room u h))
 
   -- a slice can hold the state that its bytes decode to
   sized-as : (s : List ℕ) → Bytes stateBytes s → Sized S (decodeAs S s)
@@ -62,13 +62,13 @@ module _ (S : Scheme) (roomy : HasRoom S) where
         stage = h .small 0;
         side = h .small 1;
         shared = record { session = omega (arith, h .small 2, h .small 3, h .small 4, h .small 5) };
-        key = front (cut .0) (roomy .key);
-        label = front (cut .1 .0) (roomy .key);
-        keyMask = front (cut .1 .1 .0) (roomy .key);
-        labelMask = front (cut .1 .1 .1 .0) (roomy .key);
-        z = front (cut .1 .1 .1 .1 .0) (roomy .inner);
-        r = front (cut .1 .1 .1 .1 .1 .0) (omega (arith, roomy .inner));
-        ownMask = front (cut .1 .1 .1 .1 .1 .1 .0) (roomy .inner);
+        key = front (cut .0) (has-room .key);
+        label = front (cut .1 .0) (has-room .key);
+        keyMask = front (cut .1 .1 .0) (has-room .key);
+        labelMask = front (cut .1 .1 .1 .0) (has-room .key);
+        z = front (cut .1 .1 .1 .1 .0) (has-room .inner);
+        r = front (cut .1 .1 .1 .1 .1 .0) (omega (arith, has-room .inner));
+        ownMask = front (cut .1 .1 .1 .1 .1 .1 .0) (has-room .inner);
       }
     where
       cut : Laid rooms (fieldsOf rooms (drop stateHeaderBytes s))
@@ -206,26 +206,26 @@ module _ (S : Scheme) where
 
 -- ---- in each set
 
-roomy : (set : ℕ) → isSet set ≡ true → HasRoom (schemeOf set)
-roomy = each (λ set. HasRoom (schemeOf set)) (by 1 tt) (by 2 tt) (by 3 tt)
+has-room : (set : ℕ) → isSet set ≡ true → HasRoom (schemeOf set)
+has-room = each (λ set. HasRoom (schemeOf set)) (by 1 tt) (by 2 tt) (by 3 tt)
   where
     by : (set : ℕ) → T (leb (setBits set / 8) stringRoom) → HasRoom (schemeOf set)
     by set h = record { key = lit≤ h; inner = lit≤ h }
 
 pub bytes-encoded : (u : State) → SizedState u → Bytes stateBytes (encodeState u)
-bytes-encoded u h = bytes-of-state (schemeOf (u .set)) (roomy (u .set) (h .set)) u (each (λ set. set < 256) (lit< tt) (lit< tt) (lit< tt) (u .set) (h .set)) (h .sized)
+bytes-encoded u h = bytes-of-state (schemeOf (u .set)) (has-room (u .set) (h .set)) u (each (λ set. set < 256) (lit< tt) (lit< tt) (lit< tt) (u .set) (h .set)) (h .sized)
 
 -- what is written reads back
 pub read-back : (u : State) → SizedState u → decodeState (encodeState u) ≡ u
 read-back u h =
     ap (λ (set : ℕ). decodeAs (schemeOf set) (encodeState u)) (set-encoded u ∙ counted-is (u .set) (h .set))
-    ∙ decode-encode (schemeOf (u .set)) (roomy (u .set) (h .set)) u (h .sized) refl
+    ∙ decode-encode (schemeOf (u .set)) (has-room (u .set) (h .set)) u (h .sized) refl
 
 -- any bytes decode to a state that a slice can hold
 pub sized-decoded : (s : List ℕ) → Bytes stateBytes s → SizedState (decodeState s)
 unfolding decodeAs
 sized-decoded s h =
-    record { set = counted-set (getD s headerBytes 0); sized = sized-as (schemeOf (setIn s)) (roomy (setIn s) (counted-set (getD s headerBytes 0))) s h }
+    record { set = counted-set (getD s headerBytes 0); sized = sized-as (schemeOf (setIn s)) (has-room (setIn s) (counted-set (getD s headerBytes 0))) s h }
 
 -- the idle state is one
 sized-idle : SizedState idle

@@ -19,12 +19,12 @@ use Rattle.pair_model.specs.Unit.{takeDeal}
 use Rattle.pair_model.specs.StateSlice.{stringRoom, tritsRoom, inRoom, inFront, rooms, roomPlace, stateHeader, stateHeaderBytes, stateBytes, encodeState, decodeAs}
 use Rattle.pair_model.proofs.Internal.Encodings.{HasRoom}
 use Rattle.pair_model.proofs.Internal.Lengths.{deal-length}
-use Rattle.pair_rooms.proofs.InTurn.{part-at, roomy-in}
+use Rattle.pair_rooms.proofs.InTurn.{part-at, has-room-in}
 use Rattle.pair_slices.proofs.Whole.{front-fits, whole}
 use Rattle.pair_slices.proofs.slices.deal_in_place.Statement.{statement}
 use Rattle.pair_slices.proofs.slices.deal_in_place.Tie as tie
 
-module _ (S : Scheme) (roomy : HasRoom S) (s f : List ℕ) (t : Parameters) (is : t ≡ parameters (sideOf s) (sessionOf s)) where
+module _ (S : Scheme) (has-room : HasRoom S) (s f : List ℕ) (t : Parameters) (is : t ≡ parameters (sideOf s) (sessionOf s)) where
   abbrev n : ℕ
   n = S .keyBytes
 
@@ -37,22 +37,22 @@ module _ (S : Scheme) (roomy : HasRoom S) (s f : List ℕ) (t : Parameters) (is 
   -- the fields of a deal fit their rooms
   key-fits : length (deal 0) ≤ stringRoom
   unfolding field
-  key-fits = front-fits (bodyOf f) n stringRoom (roomy .key)
+  key-fits = front-fits (bodyOf f) n stringRoom (has-room .key)
 
   label-fits : length (deal 1) ≤ stringRoom
   unfolding field
-  label-fits = front-fits (drop n (bodyOf f)) n stringRoom (roomy .key)
+  label-fits = front-fits (drop n (bodyOf f)) n stringRoom (has-room .key)
 
   z-fits : length (deal 2) ≤ stringRoom
   unfolding field
-  z-fits = front-fits (drop n (drop n (bodyOf f))) m stringRoom (roomy .inner)
+  z-fits = front-fits (drop n (drop n (bodyOf f))) m stringRoom (has-room .inner)
 
   r-fits : length (deal 3) ≤ tritsRoom
   unfolding field
-  r-fits = let h = roomy .inner in front-fits (drop m (drop n (drop n (bodyOf f)))) (2 * m) tritsRoom (omega (arith, h))
+  r-fits = let h = has-room .inner in front-fits (drop m (drop n (drop n (bodyOf f)))) (2 * m) tritsRoom (omega (arith, h))
 
   mask-fits : length (zeros m) ≤ stringRoom
-  mask-fits = omega (arith, length-zeros m, roomy .inner)
+  mask-fits = omega (arith, length-zeros m, has-room .inner)
 
   -- the slice afterwards is the state with the deal taken
   next : (o₁ o₂ o₃ : List ℕ) → length s ≡ stateBytes
@@ -63,9 +63,9 @@ module _ (S : Scheme) (roomy : HasRoom S) (s f : List ℕ) (t : Parameters) (is 
   unfolding takeDeal decodeAs
   next o₁ o₂ o₃ l e₁ e₂ e₃ =
       whole (S .set) t openKind (inFront s 0 n) (inFront s 1 n) (deal 0) (deal 1) (deal 2) (deal 3) (zeros m)
-      (front-fits (field rooms 0 (drop stateHeaderBytes s)) n stringRoom (roomy .key)) (front-fits (field rooms 1 (drop stateHeaderBytes s)) n stringRoom (roomy .key)) s o₁ l e₁
+      (front-fits (field rooms 0 (drop stateHeaderBytes s)) n stringRoom (has-room .key)) (front-fits (field rooms 1 (drop stateHeaderBytes s)) n stringRoom (has-room .key)) s o₁ l e₁
       key-fits label-fits z-fits r-fits mask-fits o₂ o₃ e₂
-      (e₃ ∙ ap (λ (z : List ℕ). take (roomPlace 6) o₂ ++ z ++ drop stateBytes o₂) (zeros-room m stringRoom (roomy .inner)))
+      (e₃ ∙ ap (λ (z : List ℕ). take (roomPlace 6) o₂ ++ z ++ drop stateBytes o₂) (zeros-room m stringRoom (has-room .inner)))
       ∙ ap (λ (p : Parameters). encodeState (takeDeal S (record { set = S .set; parameters = p; stage = decodeAs S s .stage; secrets = decodeAs S s .secrets }) (bodyOf f) .next)) is
 
   -- the open frame of the slice's halves and the frame's masks
@@ -97,11 +97,11 @@ returns c =
     let f = a .f .now in
     let S = schemeIn (a .sizes) in
     let key = s .pre .0 .key in
-    let roomy = roomy-in (a .sizes) (s .pre .0) in
+    let has-room = has-room-in (a .sizes) (s .pre .0) in
     let t = p .parameters-of .ensures in (
-      next S roomy d f _ t _ _ _ (s .pre .1) (kept .keep-halves .ensures) (put .put-deal .ensures) (behind .clear-between .ensures),
+      next S has-room d f _ t _ _ _ (s .pre .1) (kept .keep-halves .ensures) (put .put-deal .ensures) (behind .clear-between .ensures),
       opened .write-open-frame .ensures
-          ∙ written S roomy d f _ t _ _ _ _ (a .out .now) (part-at d 0 (S .keyBytes) (lit< tt) key) (part-at d 1 (S .keyBytes) (lit< tt) key) (key-dealt S roomy d f _ t) (label-dealt S roomy d f _ t),
+          ∙ written S has-room d f _ t _ _ _ _ (a .out .now) (part-at d 0 (S .keyBytes) (lit< tt) key) (part-at d 1 (S .keyBytes) (lit< tt) key) (key-dealt S has-room d f _ t) (label-dealt S has-room d f _ t),
     )
 
 pub deal-in-place-spec : {M : Type 1} → statement M

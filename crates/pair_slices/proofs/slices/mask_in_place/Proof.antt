@@ -14,7 +14,7 @@ use Rattle.pair_model.specs.Scheme.{Files, files, Scheme}
 use Rattle.pair_model.specs.Frame.{Parameters, parameters, maskKind, shareKind, frame, frameBytes, sideOf, sessionOf, bodyOf, headerBytes}
 use Rattle.pair_model.specs.Unit.{done, shareOf, takeMask}
 use Rattle.pair_model.specs.StateSlice.{inFront, encodeState, decodeAs}
-use Rattle.pair_rooms.proofs.InTurn.{part-at, roomy-in}
+use Rattle.pair_rooms.proofs.InTurn.{part-at, has-room-in}
 use Rattle.pair_states.proofs.Blank.{encode-nothing}
 use Rattle.pair_slices.proofs.slices.mask_in_place.Statement.{statement}
 use Rattle.pair_slices.proofs.slices.mask_in_place.Tie as tie
@@ -47,9 +47,9 @@ returns c =
     let u = a .state .now in
     let lent = files (a .file .now) in
     let inner = s .pre .0 .inner in
-    let roomy = roomy-in (a .sizes) (s .pre .0) in
+    let has-room = has-room-in (a .sizes) (s .pre .0) in
     let t = p .parameters-of .ensures in (
-      c .before .before .clear .ensures ∙ encode-nothing S roomy (S .set) _ 4 ∙ next S u (a .f .now) lent _ t,
+      c .before .before .clear .ensures ∙ encode-nothing S has-room (S .set) _ 4 ∙ next S u (a .f .now) lent _ t,
       frame .write-share-frame .ensures
           ∙ written S u (a .f .now) lent _ t _ _ _ (a .out .now) (part-at u 6 (S .innerBytes) (lit< tt) inner) (body S (a .f .now) (s .pre .2))
           (part-at u 5 (2 * S .innerBytes) (lit< tt) (omega (arith, inner))),

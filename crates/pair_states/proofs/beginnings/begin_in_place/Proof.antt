@@ -13,7 +13,7 @@ use Rattle.pair_model.specs.Frame.{Parameters, dealKind}
 use Rattle.pair_model.specs.Unit.{begun}
 use Rattle.pair_model.specs.StateSlice.{stringRoom, tritsRoom, inRoom, rooms, stateHeader, encodeState}
 use Rattle.pair_model.proofs.Internal.Encodings.{HasRoom}
-use Rattle.pair_rooms.proofs.InTurn.{header-first, room-more, roomy-in}
+use Rattle.pair_rooms.proofs.InTurn.{header-first, room-more, has-room-in}
 use Rattle.pair_states.proofs.Blank.{blank, then-blank}
 use Rattle.pair_states.proofs.beginnings.begin_in_place.Statement.{statement}
 use Rattle.pair_states.proofs.beginnings.begin_in_place.Tie as tie
@@ -44,7 +44,7 @@ returns c =
     let f2 = room-more f1 stringRoom (a .key .now) _ (half-fits (a .key .now) (p .2) (p .0 .key)) (omega (arith, p .1)) (one .put-room .ensures) in
     let f3 = room-more f2 stringRoom (a .label .now) _ (half-fits (a .label .now) (p .3) (p .0 .key)) (omega (arith, p .1)) (two .put-room2 .ensures) in
     then-blank f3 (drop 2 rooms) _ (p .1) (c .before .before .clear-between .ensures)
-    ∙ encode-begun (schemeIn (a .sizes)) (roomy-in (a .sizes) (p .0)) (parametersIn (a .parameters)) (a .key .now) (a .label .now)
+    ∙ encode-begun (schemeIn (a .sizes)) (has-room-in (a .sizes) (p .0)) (parametersIn (a .parameters)) (a .key .now) (a .label .now)
 
 pub begin-in-place-spec : {M : Type 1} → statement M
 begin-in-place-spec =
