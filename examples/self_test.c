@@ -1,10 +1,10 @@
-/* What a host runs at power-on: in each set a sample whose code is known, through matrix writer, dealer, both units
- * and the counter's join, and frames, files and sets that must be refused.
+/* What a host runs at power-on: in each set, and there in both lines, a sample whose code is known, through matrix
+ * writer, dealer, both units and the counter's join, and frames, files and sets that must be refused.
  *
  *     self_test
  *
- * It needs no file and no random source. Prints a line and ends with 0; or says which check failed first, in which
- * set, and ends with 1. */
+ * It needs no file and no random source. Prints that it passed and ends with 0; or says which check failed first, in
+ * which set and line, and ends with 1. */
 #include "service_pair.h"
 #include "service_pair_text.h"
 
@@ -14,16 +14,17 @@
 
 /* The interface that this host was written for. Another one does not compile, where the host would else go
  * wrong; and a library of other lengths than this header's refuses the sample with 1. */
-#if PAIR_VERSION_MAJOR != 3 || PAIR_VERSION < PAIR_VERSION_OF(3, 0, 0)
-#error "this host is written for version 3 of service_pair.h"
+#if PAIR_VERSION_MAJOR != 4 || PAIR_VERSION < PAIR_VERSION_OF(4, 0, 0)
+#error "this host is written for version 4 of service_pair.h"
 #endif
 _Static_assert(sizeof(size_t) == sizeof(uint64_t), "the library is for 64 bits");
 
-/* A state begins as a frame does, its set comes next, and then what is secret. */
-enum { SESSION = 1, STEPS = 3, SET_AT = PAIR_HEADER_BYTES, SECRET_AT, UNWRITTEN = 0xa5 };
+/* A state begins as a frame does, which ends in the line; its set comes next, and then what is secret. */
+enum { SESSION = 1, STEPS = 3, LINE_AT = PAIR_HEADER_BYTES - 1, SET_AT, SECRET_AT, UNWRITTEN = 0xa5 };
 
-/* The set that is tested. */
+/* The set and the line that are tested. */
 static uint32_t set;
+static uint8_t line;
 
 /* All that the test holds, in one place, to be wiped as a unit's own would be. */
 static struct {
@@ -40,6 +41,7 @@ static struct {
 
 static const char *failed;
 static uint32_t failed_set;
+static uint8_t failed_line;
 
 /* A failed check does not end the test: calls take any bytes, and all that is held is wiped at the end. */
 static void check(bool holds, const char *what)
@@ -48,6 +50,7 @@ static void check(bool holds, const char *what)
         return;
     failed = what;
     failed_set = set;
+    failed_line = line;
 }
 
 static bool all_are(uint8_t value, const uint8_t *bytes, size_t n)
@@ -129,18 +132,18 @@ static void check_file_of_other_set(void)
     name_set_in_file(set);
 }
 
-/* A beginning with a wrong side and empty halves, for state slices of two lengths. */
+/* A beginning with a wrong side, a line and empty halves, for state slices of two lengths. */
 static void check_refused_beginning(uint32_t right)
 {
     uint8_t *state = held.states[0];
-    memset(state, UNWRITTEN, PAIR_STATE_BYTES);
-    check(pair_begin(set, 2, SESSION, held.key, 0, held.label, 0, state, PAIR_STATE_BYTES - 1) == right,
+    size_t n = PAIR_STATE_BYTES;
+    memset(state, UNWRITTEN, n);
+    check(pair_begin(set, 2, SESSION, PAIR_LINE_STORAGE, held.key, 0, held.label, 0, state, n - 1) == right,
           "a beginning is refused by its number");
-    check(all_are(UNWRITTEN, state, PAIR_STATE_BYTES), "a state slice of another length is left as it was");
-    check(pair_begin(set, 2, SESSION, held.key, 0, held.label, 0, state, PAIR_STATE_BYTES) == right,
+    check(all_are(UNWRITTEN, state, n), "a state slice of another length is left as it was");
+    check(pair_begin(set, 2, SESSION, PAIR_LINE_STORAGE, held.key, 0, held.label, 0, state, n) == right,
           "a beginning is refused by its number");
-    check(state[SET_AT] == 1 && all_are(0, state, SET_AT) &&
-              all_are(0, state + SECRET_AT, PAIR_STATE_BYTES - SECRET_AT),
+    check(state[SET_AT] == 1 && all_are(0, state, SET_AT) && all_are(0, state + SECRET_AT, n - SECRET_AT),
           "a refused beginning writes the idle state");
 }
 
@@ -158,8 +161,8 @@ static void check_without_set(void)
         pair_matrix_read(set, in, 0, out, out_n),
         pair_evaluate(set, in, 0, in, 0, in, 0, out, out_n),
         pair_sample(set, 0, in, 0, out, out_n, &next),
-        pair_deal(set, SESSION, in, 0, out, out_n),
-        pair_deal_source(set, SESSION, 0, in, 0, out, out_n, &dealt_next),
+        pair_deal(set, SESSION, line, in, 0, out, out_n),
+        pair_deal_source(set, SESSION, line, 0, in, 0, out, out_n, &dealt_next),
         pair_join(set, in, 0, in, 0, out, out_n),
     };
     for (size_t i = 0; i < sizeof numbers / sizeof numbers[0]; i++)
@@ -172,8 +175,9 @@ static void check_without_set(void)
 /* ---- units */
 
 /* The numbers of a frame with one changed byte in its header. */
-static const uint32_t header_numbers[PAIR_HEADER_BYTES] = {PAIR_NO_KIND,       PAIR_OTHER_SIDE,    PAIR_OTHER_SESSION,
-                                                           PAIR_OTHER_SESSION, PAIR_OTHER_SESSION, PAIR_OTHER_SESSION};
+static const uint32_t header_numbers[PAIR_HEADER_BYTES] = {
+    PAIR_NO_KIND,       PAIR_OTHER_SIDE,    PAIR_OTHER_SESSION, PAIR_OTHER_SESSION,
+    PAIR_OTHER_SESSION, PAIR_OTHER_SESSION, PAIR_OTHER_LINE};
 
 /* What a unit is handed, and how much of its state and of the room for its answer. */
 struct handed {
@@ -238,16 +242,16 @@ static void check_slices(int side, int step)
 static void begin_units(void)
 {
     size_t n = frame_bytes(set, 0);
-    check(pair_deal(set, SESSION, held.tape, PAIR_TAPE_BYTES_OF(set), held.dealt, sizeof held.dealt) == PAIR_OK,
+    check(pair_deal(set, SESSION, line, held.tape, PAIR_TAPE_BYTES_OF(set), held.dealt, sizeof held.dealt) == PAIR_OK,
           "the dealer deals");
     for (int side = 0; side < 2; side++) {
         uint8_t *state = held.states[side];
         memcpy(held.frames[side], held.dealt + (size_t)side * n, n);
-        check(pair_begin(set, (uint32_t)side, SESSION, held.keys[side], PAIR_KEY_BYTES_OF(set), held.labels[side],
+        check(pair_begin(set, (uint32_t)side, SESSION, line, held.keys[side], PAIR_KEY_BYTES_OF(set), held.labels[side],
                          PAIR_LABEL_BYTES_OF(set), state, PAIR_STATE_BYTES) == PAIR_OK,
               "a unit begins");
         check(state[0] == PAIR_STAGE_AWAITS_DEAL, "a unit that has begun waits for its deal");
-        check(state[SET_AT] == set, "a unit that has begun has its set");
+        check(state[LINE_AT] == line && state[SET_AT] == set, "a unit that has begun has its line and its set");
     }
 }
 
@@ -264,6 +268,7 @@ static void step_unit(int side, int step)
           "a unit takes the frame that it waits for");
     size_t n = frame_bytes(set, step + 1);
     check(written == n, "a unit's frame has its kind's length");
+    check(held.out[LINE_AT] == line, "a unit's frame has its line");
     check(all_are(UNWRITTEN, held.out + n, sizeof held.out - n), "a unit writes its frame and nothing after it");
     check(held.states[side][0] == stages[step], "a unit goes on to its next stage");
 }
@@ -286,8 +291,9 @@ static void check_done(void)
     size_t n = frame_bytes(set, 0);
     for (int side = 0; side < 2; side++) {
         const uint8_t *state = held.states[side];
-        check(state[1] == side && state[2] == SESSION && all_are(0, state + 3, 3) && state[SET_AT] == set,
-              "a done unit keeps its side, session and set");
+        check(state[1] == side && state[2] == SESSION && all_are(0, state + 3, 3) && state[LINE_AT] == line &&
+                  state[SET_AT] == set,
+              "a done unit keeps its side, session, line and set");
         check(all_are(0, state + SECRET_AT, PAIR_STATE_BYTES - SECRET_AT), "a done unit keeps no secret");
         check_refused(side, a_frame(held.dealt + (size_t)side * n, n), PAIR_NOT_WAITED_FOR,
                       "a done unit takes no frame");
@@ -341,7 +347,7 @@ static uint8_t *put(uint8_t *to, const uint8_t *bytes, size_t n)
     return to + n;
 }
 
-/* A whole run in one place, which set 1 alone has. */
+/* A whole run in one place, which set 1 alone has, in line 0. */
 static void check_run(void)
 {
     uint8_t *to = held.input;
@@ -368,7 +374,7 @@ static void test_set(void)
     check_done();
     check_join();
     check_evaluator();
-    if (set == 1)
+    if (set == 1 && line == PAIR_LINE_BIKES)
         check_run();
     /* Whatever came out. */
     pair_wipe(&held, sizeof held);
@@ -379,12 +385,14 @@ static const char *self_test(void)
 {
     static const uint32_t none[] = {0, PAIR_SETS + 1, UINT32_MAX};
     failed = NULL;
+    line = PAIR_LINE_BIKES;
     for (size_t i = 0; i < sizeof none / sizeof none[0]; i++) {
         set = none[i];
         check_without_set();
     }
     for (set = 1; set <= PAIR_SETS; set++)
-        test_set();
+        for (line = PAIR_LINE_BIKES; line <= PAIR_LINE_STORAGE; line++)
+            test_set();
     pair_wipe_stack();
     return failed;
 }
@@ -393,7 +401,8 @@ int main(void)
 {
     const char *check_failed = self_test();
     if (check_failed != NULL) {
-        fprintf(stderr, "self-test failed with set %u: %s\n", (unsigned)failed_set, check_failed);
+        fprintf(stderr, "self-test failed with set %u, line %u: %s\n", (unsigned)failed_set, (unsigned)failed_line,
+                check_failed);
         return 1;
     }
     printf("self-test passed, interface %d.%d.%d\n", PAIR_VERSION_MAJOR, PAIR_VERSION_MINOR, PAIR_VERSION_PATCH);

@@ -1,11 +1,12 @@
 /* Both units in processes of their own, with the dealer and the counter in this one, over sockets:
  *
- *     two_units [SET [FOLDER]]
+ *     two_units [SET [LINE [FOLDER]]]
  *
  * It draws a matrix, halves and the dealer's source bytes from the system's random source, lets the units run
  * some sessions, joins their shares and compares each code with the evaluator's. The dealer has one source for
- * all sessions, and goes on in it where the last draw ended. The set is 1 where none is named. With a folder it also
- * leaves there what a counter has of the last session: `matrix`, `share0` and `share1`, for counter_reader.
+ * all sessions, and goes on in it where the last draw ended. The set is 1 and the line 0, bikes, where none is
+ * named. With a folder it also leaves there what a counter has of the last session: `matrix`, `share0` and `share1`,
+ * for counter_reader.
  *
  * So that the codes can be compared, this process also plays the owners, who hand each unit its halves.
  * A real dealer or counter never sees a half, and the two units are at two owners. */
@@ -25,9 +26,10 @@
 /* A host counts its sessions, and uses no number twice. */
 enum { SESSIONS = 3 };
 
-/* The set of all that runs here, chosen before the units start. A host of one set writes its number instead, and
- * its buffers have the lengths of that set. */
+/* The set and the line of all that runs here, chosen before the units start. A host of one set writes its number
+ * instead, and its buffers have the lengths of that set. */
 static uint32_t set = 1;
+static uint8_t line = PAIR_LINE_BIKES;
 
 /* Each session takes some of the dealer's source. */
 #define ALL_SOURCE_BYTES_OF(set) (PAIR_SOURCE_BYTES_OF(set) + (SESSIONS - 1) * PAIR_MORE_SOURCE_BYTES_OF(set))
@@ -106,8 +108,8 @@ static void unit_session(uint32_t side, uint32_t session, const uint8_t *file, s
     size_t key_n = receive(home, secret.key_half, sizeof secret.key_half);
     size_t label_n = receive(home, secret.label_half, sizeof secret.label_half);
     const char *what = "beginning";
-    uint32_t number = pair_begin(set, side, session, secret.key_half, key_n, secret.label_half, label_n, secret.state,
-                                 sizeof secret.state);
+    uint32_t number = pair_begin(set, side, session, line, secret.key_half, key_n, secret.label_half, label_n,
+                                 secret.state, sizeof secret.state);
     /* From here on the state has the halves. */
     pair_wipe(secret.key_half, sizeof secret.key_half);
     pair_wipe(secret.label_half, sizeof secret.label_half);
@@ -164,8 +166,8 @@ static uint64_t deal(uint32_t session, uint64_t start, const struct place places
 {
     size_t n = PAIR_DEAL_FRAME_BYTES_OF(set);
     uint64_t next;
-    uint32_t number = pair_deal_source(set, session, start, secret.source, ALL_SOURCE_BYTES_OF(set), secret.dealt,
-                                       sizeof secret.dealt, &next);
+    uint32_t number = pair_deal_source(set, session, line, start, secret.source, ALL_SOURCE_BYTES_OF(set),
+                                       secret.dealt, sizeof secret.dealt, &next);
     pair_wipe_stack();
     expect_ok("dealer", number);
     /* The next draw may begin inside a byte, which stays. */
@@ -285,14 +287,29 @@ static uint32_t set_of(const char *word)
     exit(2);
 }
 
+/* A line as a word: a decimal number below 256. Ends the process with 2 and a sentence where it is none. */
+static uint8_t line_of(const char *word)
+{
+    unsigned named = 0;
+    size_t n = strspn(word, "0123456789");
+    for (size_t i = 0; i < n && named < 256; i++)
+        named = 10 * named + (unsigned)(word[i] - '0');
+    if (n > 0 && word[n] == '\0' && named < 256)
+        return (uint8_t)named;
+    fprintf(stderr, "a line is 0 to 255, not '%s'\n", word);
+    exit(2);
+}
+
 int main(int argc, char **argv)
 {
-    if (argc > 3) {
-        fprintf(stderr, "usage: two_units [SET [FOLDER]]\n");
+    if (argc > 4) {
+        fprintf(stderr, "usage: two_units [SET [LINE [FOLDER]]]\n");
         return 2;
     }
     if (argc > 1)
         set = set_of(argv[1]);
+    if (argc > 2)
+        line = line_of(argv[2]);
     if (atexit(wipe_secret) != 0)
         fail("atexit");
     struct place places[2];
@@ -318,10 +335,10 @@ int main(int argc, char **argv)
     for (int side = 0; side < 2; side++)
         expect_end(side, places[side].process);
 
-    if (argc > 2) {
-        save(argv[2], "matrix", file, file_n);
-        save(argv[2], "share0", shares.bytes[0], shares.n[0]);
-        save(argv[2], "share1", shares.bytes[1], shares.n[1]);
+    if (argc > 3) {
+        save(argv[3], "matrix", file, file_n);
+        save(argv[3], "share0", shares.bytes[0], shares.n[0]);
+        save(argv[3], "share1", shares.bytes[1], shares.n[1]);
     }
     puts(equal ? "equal" : "NOT EQUAL");
     return equal ? 0 : 1;

@@ -12,6 +12,10 @@
  * carry none: one of another set is refused by its length. A unit keeps its set in its state, so a step names none,
  * and pair_run is of set 1.
  *
+ * LINES. Packs are of a line, a byte: 0 bikes, 1 storage (enum pair_line), and the others are free. Dealer and units of
+ * one pair name the same line, every frame carries it, and a unit keeps it in its state. A unit refuses a frame of
+ * another line, and the counter two share frames of differing lines; pair_run is of line 0.
+ *
  * SLICES. A slice is a pointer and a length. The pointer is never NULL, also where the length is 0, and
  * the memory is the caller's: a function reads or writes it during the call only, and keeps no pointer.
  * The slices and the count or place of one call don't overlap, and nobody else writes them during it. An input
@@ -34,14 +38,14 @@
  *
  * STACK. What each call uses at most in any set, arguments and return address included, in KiB, rounded up:
  *
- *     pair_matrix_check   0.5     pair_evaluate      2.7     pair_begin             0.2
+ *     pair_matrix_check   0.5     pair_evaluate      2.7     pair_begin             0.1
  *     pair_matrix_read    0.6     pair_sample        0.7     pair_step, with deal   0.4
  *     pair_matrix_write   1.2     pair_deal          2.8     .. with open           3.1
  *     pair_join           0.3     pair_deal_source   3.4     .. with mask           1.3
- *                                                            pair_run               9.3
+ *                                                            pair_run               9.5
  *
  * A program that looks for memcpy and memset at their first use (lazy binding) takes about 3.1 KiB below where
- * they are called, so pair_run 9.6 in all where it is the first call; linked with -z now it does not. Measured,
+ * they are called, so pair_run 9.7 in all where it is the first call; linked with -z now it does not. Measured,
  * not proved: the library was made by the toolchain rattle-kit-5b, its callers by GCC 12 and Clang 14.
  * tests/c/stack.c measures the table again.
  *
@@ -57,11 +61,11 @@
 #include <stddef.h>
 #include <stdint.h>
 
-/* The version of this interface, as one number that compares: `#if PAIR_VERSION < PAIR_VERSION_OF(3, 1, 0)`.
+/* The version of this interface, as one number that compares: `#if PAIR_VERSION < PAIR_VERSION_OF(4, 1, 0)`.
  * MAJOR is raised where a host must be looked at again (a parameter, a length, a layout or the meaning of a
  * number is another), MINOR where a call, a number or a name was added, PATCH where neither is. The library
  * has no version of its own: header and library are of one build. */
-#define PAIR_VERSION_MAJOR 3
+#define PAIR_VERSION_MAJOR 4
 #define PAIR_VERSION_MINOR 0
 #define PAIR_VERSION_PATCH 0
 #define PAIR_VERSION_OF(major, minor, patch) ((major) * 10000 + (minor) * 100 + (patch))
@@ -98,14 +102,14 @@
  *     rows                         5184    336  20736    t rows
  *     matrix file                  6144    512  27648    12, 1 and 54 blocks of 512 bytes, each with a check
  *     tape                          256     64    512    3n/4 bytes, then n trits
- *     deal frame                    166     46    326    kind 1, dealer to unit: the unit's deal
- *     both deal frames              332     92    652    unit 0's first
- *     open frame                     70     22    134    kind 2, unit to unit: key half and label half, each masked
- *     mask frame                     38     14     70    kind 3, unit to unit: the masked inner vector's half
- *     share frame                    28     12     48    kind 4, unit to counter: the code's share
+ *     deal frame                    167     47    327    kind 1, dealer to unit: the unit's deal
+ *     both deal frames              334     94    654    unit 0's first
+ *     open frame                     71     23    135    kind 2, unit to unit: key half and label half, each masked
+ *     mask frame                     39     15     71    kind 3, unit to unit: the masked inner vector's half
+ *     share frame                    29     13     49    kind 4, unit to counter: the code's share
  *
- * A frame is kind, side, session (four bytes, lowest first), then the body. */
-#define PAIR_HEADER_BYTES 6
+ * A frame is kind, side, session (four bytes, lowest first), line, then the body. */
+#define PAIR_HEADER_BYTES 7
 #define PAIR_KEY_BYTES_OF(set) (PAIR_BITS_OF(set) / 8)
 #define PAIR_LABEL_BYTES_OF(set) (PAIR_BITS_OF(set) / 8)
 #define PAIR_CODE_BYTES_OF(set) (2 * ((PAIR_DIGITS_OF(set) + 7) / 8))
@@ -165,10 +169,13 @@
 #define PAIR_MAX_MORE_SOURCE_BYTES PAIR_MORE_SOURCE_BYTES_OF(3)
 
 /* Of every set. */
-#define PAIR_STATE_BYTES 519   /* a unit's state: see pair_begin */
+#define PAIR_STATE_BYTES 520   /* a unit's state: see pair_begin */
 #define PAIR_STACK_BYTES 12288 /* more than any call uses of the stack: see STACK */
 
 enum pair_kind { PAIR_DEAL = 1, PAIR_OPEN = 2, PAIR_MASK = 3, PAIR_SHARE = 4 };
+
+/* The lines that are named. Every byte is a line. */
+enum pair_line { PAIR_LINE_BIKES = 0, PAIR_LINE_STORAGE = 1 };
 
 /* A unit's stage, the first byte of its state: idle, done, or else the kind of frame it waits for. */
 enum pair_stage {
@@ -185,7 +192,7 @@ enum pair_number {
     PAIR_WRONG_LENGTH = 1,    /* an input other than a frame (half, key, label, tape, row set, matrix file) has another
                                  length than stated, or an output slice is shorter than what may be written */
     PAIR_NO_SIDE = 2,         /* at the beginning, side is neither 0 nor 1 */
-    PAIR_NO_KIND = 3,         /* frame under 6 bytes, or its kind is not 1 to 3 (step) or 4 (join) */
+    PAIR_NO_KIND = 3,         /* frame under 7 bytes, or its kind is not 1 to 3 (step) or 4 (join) */
     PAIR_FRAME_LENGTH = 4,    /* a frame's length is not its kind's */
     PAIR_OTHER_SESSION = 5,   /* session is not the unit's; in join, the two differ */
     PAIR_OTHER_SIDE = 6,      /* side is not this unit's (deal), the other's (open, mask), or in join 0 then 1 */
@@ -198,7 +205,8 @@ enum pair_number {
     PAIR_ZERO_ROW = 12,       /* a row is all zero */
     PAIR_SHORT_SOURCE = 13,   /* a source has fewer than 3n pairs from the start, or fewer than n other than 3 after
                                  those, or 2^62 bytes or more, whose pairs 64 bits would not count */
-    PAIR_NO_SET = 14          /* set is not 1, 2 or 3: looked at before all other numbers */
+    PAIR_NO_SET = 14,         /* set is not 1, 2 or 3: looked at before all other numbers */
+    PAIR_OTHER_LINE = 15      /* line is not the unit's; in join, the two differ: looked at after all other numbers */
 };
 
 #ifdef __cplusplus
@@ -239,30 +247,34 @@ PAIR_NODISCARD PAIR_NONNULL
 uint32_t pair_sample(uint32_t set, uint64_t start, const uint8_t *source, size_t source_n, uint8_t *out, size_t out_n,
                      uint64_t *next);
 
-/* Writes unit 0's deal frame, then unit 1's (PAIR_DEALT_BYTES_OF), of a session and a tape. Gives 0, 1, 10 or 14. */
+/* Writes unit 0's deal frame, then unit 1's (PAIR_DEALT_BYTES_OF), of a session, a line and a tape. Gives 0, 1, 10 or
+ * 14. */
 PAIR_NODISCARD PAIR_NONNULL
-uint32_t pair_deal(uint32_t set, uint32_t session, const uint8_t *tape, size_t tape_n, uint8_t *out, size_t out_n);
+uint32_t pair_deal(uint32_t set, uint32_t session, uint8_t line, const uint8_t *tape, size_t tape_n, uint8_t *out,
+                   size_t out_n);
 
 /* The same of the tape that pair_sample makes of this source from `start` on, with its *next. Gives 0, 1, 13 or 14. */
 PAIR_NODISCARD PAIR_NONNULL
-uint32_t pair_deal_source(uint32_t set, uint32_t session, uint64_t start, const uint8_t *source, size_t source_n,
-                          uint8_t *out, size_t out_n, uint64_t *next);
+uint32_t pair_deal_source(uint32_t set, uint32_t session, uint8_t line, uint64_t start, const uint8_t *source,
+                          size_t source_n, uint8_t *out, size_t out_n, uint64_t *next);
 
 /* Begins a unit of side 0 or 1 with its halves, and writes its state (exactly PAIR_STATE_BYTES, in every set): it
- * waits for its deal frame. Gives 0, 1, 2 or 14. A refusal writes the idle state, whatever set was named: all zero
+ * waits for its deal frame. Gives 0, 1, 2 or 14. A refusal writes the idle state, whatever was named: all zero
  * but for its set, which is 1. It accepts no frame, so that an old state does not go on under a host that overlooks
  * the number; a host that wants to keep one lends another slice. Only a state slice of another length (1, or 14 if
  * the set is none) is left as it was.
  *
- * A state is stage 1 byte (enum pair_stage), side 1, session 4 lowest first, set 1, and then fields with room for
- * every set: key half 64, label half 64, of the deal 64, 64, 64 and 128, the unit's own mask 64. A field has its
- * set's bytes in front, and zeros after them. Done, a unit keeps stage, side, session and set, and all else is zero.
+ * A state is stage 1 byte (enum pair_stage), side 1, session 4 lowest first, line 1, set 1, and then fields with room
+ * for every set: key half 64, label half 64, of the deal 64, 64, 64 and 128, the unit's own mask 64. A field has its
+ * set's bytes in front, and zeros after them. Done, a unit keeps stage, side, session, line and set, and all else is
+ * zero.
  * Nobody else writes a state between two calls, and no copy is stepped again: two answers from one state tell more
  * than the protocol does. Bytes that no beginning made count as set 1 unless their set is 2 or 3, and what stands
  * after a field's bytes is not read. */
 PAIR_NODISCARD PAIR_NONNULL
-uint32_t pair_begin(uint32_t set, uint32_t side, uint32_t session, const uint8_t *key_half, size_t key_half_n,
-                    const uint8_t *label_half, size_t label_half_n, uint8_t *state, size_t state_n);
+uint32_t pair_begin(uint32_t set, uint32_t side, uint32_t session, uint8_t line, const uint8_t *key_half,
+                    size_t key_half_n, const uint8_t *label_half, size_t label_half_n, uint8_t *state,
+                    size_t state_n);
 
 /* Hands a unit one frame. Accepted, the frame to send stands in out (at least PAIR_STEP_OUTPUT_BYTES_OF),
  * *written is its length, and the state is the next one:
@@ -274,18 +286,19 @@ uint32_t pair_begin(uint32_t set, uint32_t side, uint32_t session, const uint8_t
  *
  * After three accepted frames the unit is done, and its state has no secret left. A refused frame leaves
  * the state as it was, so a host may drop it and go on. The matrix file (PAIR_FILE_BYTES_OF) is read only if
- * the frame's first byte is 3; for other frames it may be empty. Gives 0, 1 or 3 to 12 but not 11. */
+ * the frame's first byte is 3; for other frames it may be empty. Gives 0, 1, 3 to 10, 12 or 15. */
 PAIR_NODISCARD PAIR_NONNULL
 uint32_t pair_step(uint8_t *state, size_t state_n, const uint8_t *frame, size_t frame_n, const uint8_t *file,
                    size_t file_n, uint8_t *out, size_t out_n, uint64_t *written);
 
-/* Adds side 0's and side 1's share frame to the code (PAIR_CODE_BYTES_OF). Gives 0, 1, 3 to 6, 10, 11 or 14. */
+/* Adds side 0's and side 1's share frame to the code (PAIR_CODE_BYTES_OF). Gives 0, 1, 3 to 6, 10, 11, 14
+ * or 15. */
 PAIR_NODISCARD PAIR_NONNULL
 uint32_t pair_join(uint32_t set, const uint8_t *share0, size_t share0_n, const uint8_t *share1, size_t share1_n,
                    uint8_t *out, size_t out_n);
 
-/* A whole run of set 1 in one place, session 1, for trials: of two key halves, two label halves, tape and matrix
- * file (PAIR_INPUT_BYTES) it writes the code (PAIR_CODE_BYTES). Gives 0, 1, 8, 9, 10 or 12. */
+/* A whole run of set 1 in one place, session 1, line 0, for trials: of two key halves, two label halves, tape and
+ * matrix file (PAIR_INPUT_BYTES) it writes the code (PAIR_CODE_BYTES). Gives 0, 1, 8, 9, 10 or 12. */
 PAIR_NODISCARD PAIR_NONNULL
 uint32_t pair_run(const uint8_t *input, size_t input_n, uint8_t *out, size_t out_n);
 

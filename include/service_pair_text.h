@@ -16,7 +16,7 @@ static inline const char *pair_number_text(uint32_t number)
     case PAIR_NO_SIDE:
         return "a side is 0 or 1";
     case PAIR_NO_KIND:
-        return "a frame has under 6 bytes, or a kind that is not taken here";
+        return "a frame has under 7 bytes, or a kind that is not taken here";
     case PAIR_FRAME_LENGTH:
         return "a frame's length is not its kind's";
     case PAIR_OTHER_SESSION:
@@ -39,6 +39,8 @@ static inline const char *pair_number_text(uint32_t number)
         return "the source has too few usable pairs of bits from the start on";
     case PAIR_NO_SET:
         return "a set is 1, 2 or 3";
+    case PAIR_OTHER_LINE:
+        return "a frame is of another line";
     default:
         return "no number of the table";
     }

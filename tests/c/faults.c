@@ -7,8 +7,8 @@
 #include <stdlib.h>
 #include <string.h>
 
-/* Where a state has its set. */
-enum { STATE_SET = PAIR_HEADER_BYTES };
+/* Where a frame and a state have their line, and a state its set. */
+enum { FRAME_LINE = PAIR_HEADER_BYTES - 1, STATE_SET };
 
 enum fault {
     NO_FAULT,
@@ -21,16 +21,22 @@ enum fault {
     BEGIN_REFUSED_KEEPS_STATE,
     BEGIN_REFUSED_WRITES_ZEROS,
     BEGIN_REFUSED_KEEPS_SET,
+    BEGIN_REFUSED_KEEPS_LINE,
     WRITE_REFUSES,
     CHECK_REFUSES,
     CHECK_TAKES_OTHER_LENGTH,
     CHECK_PASSES_OVER_BYTE_3,
     READ_PASSES_OVER_BYTE_3,
     DEAL_REFUSES,
+    DEAL_IN_LINE_0,
     BEGIN_REFUSES,
     BEGIN_STAYS_IDLE,
     BEGIN_IN_SET_1,
+    BEGIN_IN_LINE_0,
     STEP_TAKES_DAMAGED,
+    STEP_TAKES_OTHER_LINE,
+    STEP_WRITES_LINE_0,
+    STEP_SHARE_OF_LINE_0,
     STEP_TAKES_CUT,
     STEP_TAKES_CUT_HEADER,
     STEP_TAKES_OTHER_SET,
@@ -46,10 +52,12 @@ enum fault {
     STEP_WRITES_MORE,
     STEP_STAYS,
     STEP_DONE_IN_SET_1,
+    STEP_DONE_IN_LINE_0,
     STEP_KEEPS_HALF,
     STEP_TAKES_WHEN_DONE,
     STEP_OTHER_SHARE,
     JOIN_TAKES_DAMAGED,
+    JOIN_TAKES_OTHER_LINE,
     JOIN_TAKES_CUT,
     JOIN_TAKES_OTHER_SET,
     JOIN_REFUSED_WRITES,
@@ -75,16 +83,23 @@ static const char *const first_failed[FAULTS] = {
     [BEGIN_REFUSED_KEEPS_STATE] = "a refused beginning writes the idle state",
     [BEGIN_REFUSED_WRITES_ZEROS] = "a refused beginning writes the idle state",
     [BEGIN_REFUSED_KEEPS_SET] = "a refused beginning writes the idle state",
+    [BEGIN_REFUSED_KEEPS_LINE] = "a refused beginning writes the idle state",
     [WRITE_REFUSES] = "the matrix file is written",
     [CHECK_REFUSES] = "the matrix file is fit",
     [CHECK_TAKES_OTHER_LENGTH] = "a file of another set is refused by its length",
     [CHECK_PASSES_OVER_BYTE_3] = "a block of another set is refused by its number",
     [READ_PASSES_OVER_BYTE_3] = "a block of another set is refused by its number",
     [DEAL_REFUSES] = "the dealer deals",
+    /* seen in line 1, as the other faults named LINE_0 */
+    [DEAL_IN_LINE_0] = "a unit takes the frame that it waits for",
     [BEGIN_REFUSES] = "a unit begins",
     [BEGIN_STAYS_IDLE] = "a unit that has begun waits for its deal",
-    [BEGIN_IN_SET_1] = "a unit that has begun has its set",
+    [BEGIN_IN_SET_1] = "a unit that has begun has its line and its set",
+    [BEGIN_IN_LINE_0] = "a unit that has begun has its line and its set",
     [STEP_TAKES_DAMAGED] = "a frame with a damaged header is refused by its number",
+    [STEP_TAKES_OTHER_LINE] = "a frame with a damaged header is refused by its number",
+    [STEP_WRITES_LINE_0] = "a unit's frame has its line",
+    [STEP_SHARE_OF_LINE_0] = "a unit's frame has its line",
     [STEP_TAKES_CUT] = "a cut frame is refused by its number",
     [STEP_TAKES_CUT_HEADER] = "a cut header is refused by its number",
     [STEP_TAKES_OTHER_SET] = "a frame of another set is refused by its length",
@@ -100,11 +115,13 @@ static const char *const first_failed[FAULTS] = {
     [STEP_COUNTS_MORE] = "a unit's frame has its kind's length",
     [STEP_WRITES_MORE] = "a unit writes its frame and nothing after it",
     [STEP_STAYS] = "a unit goes on to its next stage",
-    [STEP_DONE_IN_SET_1] = "a done unit keeps its side, session and set",
+    [STEP_DONE_IN_SET_1] = "a done unit keeps its side, session, line and set",
+    [STEP_DONE_IN_LINE_0] = "a done unit keeps its side, session, line and set",
     [STEP_KEEPS_HALF] = "a done unit keeps no secret",
     [STEP_TAKES_WHEN_DONE] = "a done unit takes no frame",
     [STEP_OTHER_SHARE] = "two units give the sample's code and no byte more",
     [JOIN_TAKES_DAMAGED] = "a share with a damaged header is refused by its number",
+    [JOIN_TAKES_OTHER_LINE] = "a share with a damaged header is refused by its number",
     [JOIN_TAKES_CUT] = "a cut share is refused by its number",
     [JOIN_TAKES_OTHER_SET] = "a share of another set is refused by its length",
     [JOIN_REFUSED_WRITES] = "a refused share writes nothing",
@@ -176,14 +193,22 @@ static uint32_t faulty_sample(uint32_t set, uint64_t start, const uint8_t *sourc
     return number;
 }
 
-static uint32_t faulty_deal(uint32_t set, uint32_t session, const uint8_t *tape, size_t tape_n, uint8_t *out,
-                            size_t out_n)
+/* The line that a call takes, which should be the one that it names. */
+static uint8_t line_taken(enum fault which, uint8_t line)
 {
-    return refusing(DEAL_REFUSES, pair_deal(set, session, tape, tape_n, out, out_n));
+    return fault == which ? PAIR_LINE_BIKES : line;
+}
+
+static uint32_t faulty_deal(uint32_t set, uint32_t session, uint8_t line, const uint8_t *tape, size_t tape_n,
+                            uint8_t *out, size_t out_n)
+{
+    line = line_taken(DEAL_IN_LINE_0, line);
+    return refusing(DEAL_REFUSES, pair_deal(set, session, line, tape, tape_n, out, out_n));
 }
 
 /* What a refused beginning has left in its state slice. */
-static void spoil_refused(uint32_t set, uint8_t *state, size_t state_n, const uint8_t before[PAIR_STATE_BYTES])
+static void spoil_refused(uint32_t set, uint8_t line, uint8_t *state, size_t state_n,
+                          const uint8_t before[PAIR_STATE_BYTES])
 {
     if (state_n != PAIR_STATE_BYTES) {
         state[0] ^= fault == BEGIN_REFUSED_WRITES_OTHER_LENGTH;
@@ -195,17 +220,20 @@ static void spoil_refused(uint32_t set, uint8_t *state, size_t state_n, const ui
         state[STATE_SET] = 0;
     if (fault == BEGIN_REFUSED_KEEPS_SET && PAIR_BITS_OF(set) > 0)
         state[STATE_SET] = (uint8_t)set;
+    if (fault == BEGIN_REFUSED_KEEPS_LINE)
+        state[FRAME_LINE] = line;
 }
 
-static uint32_t faulty_begin(uint32_t set, uint32_t side, uint32_t session, const uint8_t *key_half,
+static uint32_t faulty_begin(uint32_t set, uint32_t side, uint32_t session, uint8_t line, const uint8_t *key_half,
                              size_t key_half_n, const uint8_t *label_half, size_t label_half_n, uint8_t *state,
                              size_t state_n)
 {
     uint8_t before[PAIR_STATE_BYTES];
     memcpy(before, state, state_n < sizeof before ? state_n : sizeof before);
-    uint32_t number = pair_begin(set, side, session, key_half, key_half_n, label_half, label_half_n, state, state_n);
+    uint32_t number = pair_begin(set, side, session, line_taken(BEGIN_IN_LINE_0, line), key_half, key_half_n,
+                                 label_half, label_half_n, state, state_n);
     if (number != PAIR_OK) {
-        spoil_refused(set, state, state_n, before);
+        spoil_refused(set, line, state, state_n, before);
         return number == PAIR_NO_SET && fault == BEGIN_NO_SET_AFTER_LENGTHS ? PAIR_WRONG_LENGTH : number;
     }
     if (fault == BEGIN_STAYS_IDLE)
@@ -227,6 +255,12 @@ static void spoil_accepted(uint8_t *state, uint8_t *out, uint64_t *written)
     state[STATE_SET + 1] |= fault == STEP_KEEPS_HALF;
     if (fault == STEP_DONE_IN_SET_1 && done)
         state[STATE_SET] = 1;
+    if (fault == STEP_DONE_IN_LINE_0 && done)
+        state[FRAME_LINE] = PAIR_LINE_BIKES;
+    out[FRAME_LINE] = line_taken(STEP_WRITES_LINE_0, out[FRAME_LINE]);
+    /* of both units: join would see one of them */
+    if (done)
+        out[FRAME_LINE] = line_taken(STEP_SHARE_OF_LINE_0, out[FRAME_LINE]);
 }
 
 static bool is_frame_of_other_set(const uint8_t *state, size_t frame_n)
@@ -260,6 +294,7 @@ static uint32_t faulty_step(uint8_t *state, size_t state_n, const uint8_t *frame
                        number);
     number = accepting(STEP_PASSES_OVER_BYTE_3, PAIR_BLOCK_LAYOUT, number);
     number = accepting(STEP_TAKES_DAMAGED, PAIR_OTHER_SESSION, number);
+    number = accepting(STEP_TAKES_OTHER_LINE, PAIR_OTHER_LINE, number);
     number = accepting(STEP_TAKES_WHEN_DONE, PAIR_NOT_WAITED_FOR, number);
     return accepting(STEP_TAKES_CUT, PAIR_FRAME_LENGTH, number);
 }
@@ -274,6 +309,7 @@ static uint32_t faulty_join(uint32_t set, const uint8_t *share0, size_t share0_n
     } else if (fault == JOIN_REFUSED_WRITES && number == PAIR_FRAME_LENGTH)
         out[0] = 0;
     number = accepting(JOIN_TAKES_DAMAGED, PAIR_OTHER_SIDE, number);
+    number = accepting(JOIN_TAKES_OTHER_LINE, PAIR_OTHER_LINE, number);
     number = accepting(share0_n == share1_n ? JOIN_TAKES_OTHER_SET : JOIN_TAKES_CUT, PAIR_FRAME_LENGTH, number);
     return refusing(JOIN_REFUSES, number);
 }

@@ -50,7 +50,7 @@ static void begin_unit(uint32_t side, uint32_t session, const uint8_t *key_half,
                        uint8_t out[PAIR_MAX_STEP_OUTPUT_BYTES])
 {
     uint64_t written;
-    expect_ok("beginning", pair_begin(set, side, session, key_half, PAIR_KEY_BYTES_OF(set), label_half,
+    expect_ok("beginning", pair_begin(set, side, session, line, key_half, PAIR_KEY_BYTES_OF(set), label_half,
                                       PAIR_LABEL_BYTES_OF(set), state, PAIR_STATE_BYTES));
     expect_ok("step", pair_step(state, PAIR_STATE_BYTES, deal_frame, PAIR_DEAL_FRAME_BYTES_OF(set), deal_frame, 0, out,
                                 PAIR_MAX_STEP_OUTPUT_BYTES, &written));
@@ -64,7 +64,7 @@ static uint64_t make_session(uint32_t session, uint64_t start, uint8_t (*message
     uint8_t state[PAIR_STATE_BYTES], open0[PAIR_MAX_STEP_OUTPUT_BYTES], out[PAIR_MAX_STEP_OUTPUT_BYTES];
     size_t deal_n = PAIR_DEAL_FRAME_BYTES_OF(set), open_n = PAIR_OPEN_FRAME_BYTES_OF(set);
     uint64_t written, next;
-    expect_ok("dealer", pair_deal_source(set, session, start, secret.source, ALL_SOURCE_BYTES_OF(set), dealt,
+    expect_ok("dealer", pair_deal_source(set, session, line, start, secret.source, ALL_SOURCE_BYTES_OF(set), dealt,
                                          sizeof dealt, &next));
     memcpy(message[2], dealt, deal_n);
     begin_unit(0, session, message[0], message[1], dealt, state, open0);

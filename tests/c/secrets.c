@@ -9,8 +9,8 @@
  *     secrets address    an address that does: likewise
  *     secrets mask       a product of 64 bytes that jumps on each bit of a key: likewise
  *
- * Not marked: sets, lengths, sides, sessions, stages and the other bytes of headers, the matrix file, starts, and of
- * a sampler's source the bytes that trits are drawn from, also where some pairs of the first one are copied.
+ * Not marked: sets, lengths, sides, sessions, lines, stages and the other bytes of headers, the matrix file, starts,
+ * and of a sampler's source the bytes that trits are drawn from, also where some pairs of the first one are copied.
  * Which pairs of those are skipped decides where the others go and where the draw ends, and says nothing of
  * the others' values; memcheck can't tell the two apart. */
 #include "inputs.h"
@@ -24,7 +24,8 @@
 #include <valgrind/memcheck.h>
 
 /* A state is public up to the key half, and each of its fields has the longest set's bytes. */
-enum { SESSION = 0x01020304, STATE_KEY = PAIR_HEADER_BYTES + 1, STATE_LABEL = STATE_KEY + PAIR_MAX_KEY_BYTES };
+enum { SESSION = 0x01020304, LINE = PAIR_LINE_STORAGE, LINE_AT = PAIR_HEADER_BYTES - 1 };
+enum { STATE_KEY = PAIR_HEADER_BYTES + 1, STATE_LABEL = STATE_KEY + PAIR_MAX_KEY_BYTES };
 
 /* The set that is tried; the bytes of a tape that are copied, and of a plane of the trits after them. */
 static uint32_t set;
@@ -124,8 +125,8 @@ static void try_draws(uint64_t start)
     uint64_t next;
     show(source, sizeof source);
     hide(source + start / 4, copied);
-    expect("pair_deal_source", pair_deal_source(set, SESSION, start, source, n, dealt, sizeof dealt, &next), PAIR_DONE,
-           0);
+    expect("pair_deal_source", pair_deal_source(set, SESSION, LINE, start, source, n, dealt, sizeof dealt, &next),
+           PAIR_DONE, 0);
     expect_public("pair_deal_source", &next, sizeof next);
     expect("pair_sample", pair_sample(set, start, source, n, sampled, sizeof sampled, &next), PAIR_DONE, 0);
     expect_public("pair_sample", &next, sizeof next);
@@ -142,10 +143,10 @@ static void try_dealer(void)
     memcpy(unfit, tape, sizeof unfit);
     unfit[copied] = unfit[copied + plane] = 1;
     hide(unfit + copied, 2 * plane);
-    expect("pair_deal, unfit", pair_deal(set, SESSION, unfit, n, unread, sizeof unread), PAIR_UNFIT_TRIT, 1);
-    expect("pair_deal, no set", pair_deal(0, SESSION, tape, n, unread, sizeof unread), PAIR_NO_SET, 0);
+    expect("pair_deal, unfit", pair_deal(set, SESSION, LINE, unfit, n, unread, sizeof unread), PAIR_UNFIT_TRIT, 1);
+    expect("pair_deal, no set", pair_deal(0, SESSION, LINE, tape, n, unread, sizeof unread), PAIR_NO_SET, 0);
     /* The number tells whether r0 is fit: one jump. */
-    expect("pair_deal", pair_deal(set, SESSION, tape, n, dealt, sizeof dealt), PAIR_DONE, 1);
+    expect("pair_deal", pair_deal(set, SESSION, LINE, tape, n, dealt, sizeof dealt), PAIR_DONE, 1);
     expect_frame("pair_deal", dealt, frame_n);
     expect_frame("pair_deal", dealt + frame_n, frame_n);
 }
@@ -155,8 +156,8 @@ static void try_idle(const char *name, uint32_t named, uint32_t side, uint32_t r
 {
     uint8_t idle[PAIR_STATE_BYTES];
     expect(name,
-           pair_begin(named, side, SESSION, keys[0], PAIR_KEY_BYTES_OF(set), labels[0], PAIR_LABEL_BYTES_OF(set), idle,
-                      sizeof idle),
+           pair_begin(named, side, SESSION, LINE, keys[0], PAIR_KEY_BYTES_OF(set), labels[0],
+                      PAIR_LABEL_BYTES_OF(set), idle, sizeof idle),
            right, 0);
     expect_public(name, idle, sizeof idle);
 }
@@ -166,7 +167,7 @@ static void try_beginnings(void)
     for (uint32_t side = 0; side < 2; side++) {
         uint8_t *state = states[side];
         expect("pair_begin",
-               pair_begin(set, side, SESSION, keys[side], PAIR_KEY_BYTES_OF(set), labels[side],
+               pair_begin(set, side, SESSION, LINE, keys[side], PAIR_KEY_BYTES_OF(set), labels[side],
                           PAIR_LABEL_BYTES_OF(set), state, PAIR_STATE_BYTES),
                PAIR_DONE, 0);
         expect_public("pair_begin", state, STATE_KEY);
@@ -198,12 +199,15 @@ static void step(const char *name, int side, const uint8_t *frame, size_t n, uin
 static void try_refusals(int side, const uint8_t *frame, size_t n)
 {
     uint8_t other[PAIR_MAX_DEAL_FRAME_BYTES];
-    static const uint32_t numbers[PAIR_HEADER_BYTES] = {PAIR_NO_KIND,       PAIR_OTHER_SIDE,    PAIR_OTHER_SESSION,
-                                                        PAIR_OTHER_SESSION, PAIR_OTHER_SESSION, PAIR_OTHER_SESSION};
+    static const uint32_t numbers[PAIR_HEADER_BYTES] = {
+        PAIR_NO_KIND,       PAIR_OTHER_SIDE,    PAIR_OTHER_SESSION, PAIR_OTHER_SESSION,
+        PAIR_OTHER_SESSION, PAIR_OTHER_SESSION, PAIR_OTHER_LINE};
     for (size_t i = 0; i < PAIR_HEADER_BYTES; i++) {
         memcpy(other, frame, n);
         other[i] ^= 0x80;
-        step("pair_step, other header", side, other, n, numbers[i], 0);
+        /* The line comes after a deal's r, whose test is one jump. */
+        unsigned reports = i == LINE_AT && frame[0] == PAIR_DEAL;
+        step("pair_step, other header", side, other, n, numbers[i], reports);
     }
     step("pair_step, short frame", side, frame, n - 1, PAIR_FRAME_LENGTH, 0);
 }

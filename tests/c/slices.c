@@ -1,10 +1,10 @@
 /* Every function of the interface in every set, and with numbers that are no set, on fit, short, long and damaged
  * slices, under AddressSanitizer and UndefinedBehaviorSanitizer, between guards and at both ends of their pages. What
- * the written bytes should be is for the Rust tests, but for a state's set. */
+ * the written bytes should be is for the Rust tests, but for a state's line and set. */
 #include "lent.h"
 #include "service_pair.h"
 
-enum { SLICES = 4, SESSION = 0x01020304, SET_AT = PAIR_HEADER_BYTES };
+enum { SLICES = 4, SESSION = 0x01020304, LINE = 0x05, LINE_AT = PAIR_HEADER_BYTES - 1, SET_AT };
 
 /* The set whose slices are tried. */
 static uint32_t set;
@@ -14,7 +14,7 @@ static uint32_t set;
 /* What the number says of a slice's length alone. */
 enum role {
     INPUT,          /* 1 if another than stated */
-    FRAME,          /* 3 if under 6, else 4 if another than its kind's */
+    FRAME,          /* 3 if under 7, else 4 if another than its kind's */
     SOURCE,         /* 13 if shorter than what is read */
     FILE_UNREAD,    /* nothing */
     FILE_OF_MASK,   /* as an input, if the frame has a first byte */
@@ -74,18 +74,18 @@ static uint32_t run_sample(const struct call *call, const struct lent *s, uint64
 static uint32_t run_deal(const struct call *call, const struct lent *s, uint64_t *count)
 {
     (void)count;
-    return pair_deal(call->set, SESSION, s[0].p, s[0].n, s[1].p, s[1].n);
+    return pair_deal(call->set, SESSION, LINE, s[0].p, s[0].n, s[1].p, s[1].n);
 }
 
 static uint32_t run_deal_source(const struct call *call, const struct lent *s, uint64_t *count)
 {
-    return pair_deal_source(call->set, SESSION, call->start, s[0].p, s[0].n, s[1].p, s[1].n, count);
+    return pair_deal_source(call->set, SESSION, LINE, call->start, s[0].p, s[0].n, s[1].p, s[1].n, count);
 }
 
 static uint32_t run_begin(const struct call *call, const struct lent *s, uint64_t *count)
 {
     (void)count;
-    return pair_begin(call->set, call->side, SESSION, s[0].p, s[0].n, s[1].p, s[1].n, s[2].p, s[2].n);
+    return pair_begin(call->set, call->side, SESSION, LINE, s[0].p, s[0].n, s[1].p, s[1].n, s[2].p, s[2].n);
 }
 
 static uint32_t run_step(const struct call *call, const struct lent *s, uint64_t *count)
@@ -153,7 +153,8 @@ static void expect_slice(const struct call *call, enum role role, const struct l
         expect(is_idle(s) && kept(s, s->n), call->name, "a refused beginning writes the idle state alone");
         return;
     }
-    expect(!state || !done || s->p[SET_AT] == call->set, call->name, "the state has another set");
+    expect(!state || !done || (s->p[LINE_AT] == LINE && s->p[SET_AT] == call->set), call->name,
+           "the state has another line or set");
     size_t written = !done ? 0 : state ? s->n : role == OUTPUT ? call->writes : 0;
     expect(kept(s, written), call->name, done ? "other bytes were written" : "a refusal wrote");
 }
@@ -314,13 +315,13 @@ static void make_run(void)
     uint64_t next;
     fill(source, source_n);
     made("pair_sample", pair_sample(set, 0, source, source_n, tape, tape_n, &next));
-    made("pair_deal", pair_deal(set, SESSION, tape, tape_n, dealt, sizeof dealt));
+    made("pair_deal", pair_deal(set, SESSION, LINE, tape, tape_n, dealt, sizeof dealt));
     for (int side = 0; side < 2; side++) {
         fill(keys[side], sizeof keys[side]);
         fill(labels[side], sizeof labels[side]);
         memcpy(frames[side][0], dealt + (size_t)side * n, n);
-        made("pair_begin", pair_begin(set, (uint32_t)side, SESSION, keys[side], PAIR_KEY_BYTES_OF(set), labels[side],
-                                      PAIR_LABEL_BYTES_OF(set), states[side][0], PAIR_STATE_BYTES));
+        made("pair_begin", pair_begin(set, (uint32_t)side, SESSION, LINE, keys[side], PAIR_KEY_BYTES_OF(set),
+                                      labels[side], PAIR_LABEL_BYTES_OF(set), states[side][0], PAIR_STATE_BYTES));
     }
     make_steps();
 }
@@ -338,26 +339,39 @@ static void try_sets(struct call call)
     }
 }
 
-static void try_step(int side, int step, const uint8_t *matrix, uint32_t number)
+static void try_step(int side, int step, const uint8_t *frame, const uint8_t *matrix, uint32_t number)
 {
     /* Stage by stage with the frame waited for; done, with the last one again. */
     int taken = step < 3 ? step : 2;
     struct call call = {"pair_step", set, run_step, .n = 4, .counts = true, .number = number};
     call.slices[0] = (struct slice){STATE, states[side][step], PAIR_STATE_BYTES};
-    call.slices[1] = (struct slice){FRAME, frames[side][taken], frame_bytes(set, taken)};
+    call.slices[1] = (struct slice){FRAME, frame, frame_bytes(set, taken)};
     call.slices[2] = (struct slice){taken < 2 ? FILE_UNREAD : FILE_OF_MASK, matrix, PAIR_FILE_BYTES_OF(set)};
     call.slices[3] = (struct slice){OUTPUT, NULL, PAIR_STEP_OUTPUT_BYTES_OF(set)};
     call.count = call.writes = frame_bytes(set, taken + 1);
     try_call(&call);
 }
 
+/* The frame in another line. */
+static const uint8_t *in_other_line(const uint8_t *frame)
+{
+    static uint8_t other[PAIR_MAX_DEAL_FRAME_BYTES];
+    memcpy(other, frame, sizeof other);
+    other[LINE_AT] ^= 1;
+    return other;
+}
+
 static void try_steps(void)
 {
     for (int side = 0; side < 2; side++) {
-        for (int step = 0; step < 3; step++)
-            try_step(side, step, file, PAIR_DONE);
-        try_step(side, 2, mixed_file, PAIR_BLOCK_LAYOUT);
-        try_step(side, 3, file, PAIR_NOT_WAITED_FOR);
+        uint8_t (*taken)[PAIR_MAX_DEAL_FRAME_BYTES] = frames[side];
+        for (int step = 0; step < 3; step++) {
+            try_step(side, step, taken[step], file, PAIR_DONE);
+            try_step(side, step, in_other_line(taken[step]), file, PAIR_OTHER_LINE);
+        }
+        try_step(side, 2, taken[2], mixed_file, PAIR_BLOCK_LAYOUT);
+        try_step(side, 2, in_other_line(taken[2]), mixed_file, PAIR_BLOCK_LAYOUT);
+        try_step(side, 3, taken[2], file, PAIR_NOT_WAITED_FOR);
     }
 }
 
@@ -405,7 +419,8 @@ static void try_uncounted(void)
         uint8_t out[PAIR_MAX_DEALT_BYTES] = {0}, zeros[PAIR_MAX_DEALT_BYTES] = {0};
         uint64_t next = 1, dealt_next = 1;
         uint32_t number = pair_sample(set, 0, source, lengths[i], out, sizeof out, &next);
-        uint32_t dealt_number = pair_deal_source(set, SESSION, 0, source, lengths[i], out, sizeof out, &dealt_next);
+        uint32_t dealt_number =
+            pair_deal_source(set, SESSION, LINE, 0, source, lengths[i], out, sizeof out, &dealt_next);
         calls += 2;
         expect(number == PAIR_SHORT_SOURCE && dealt_number == number, "a source of 2^62 bytes", "it is not refused");
         expect(next == 0 && dealt_next == 0, "a source of 2^62 bytes", "a refusal reports a place");
@@ -422,6 +437,7 @@ static void try_others(void)
     const struct slice a_tape = {INPUT, tape, PAIR_TAPE_BYTES_OF(set)}, all_rows = {INPUT, rows, rows_n};
     const struct slice share0 = {FRAME, frames[0][3], frame_bytes(set, 3)};
     const struct slice share1 = {FRAME, frames[1][3], frame_bytes(set, 3)};
+    const struct slice other = {FRAME, in_other_line(frames[1][3]), frame_bytes(set, 3)};
     const struct slice to_file = {OUTPUT, NULL, file_n}, to_rows = {OUTPUT, NULL, rows_n};
     const struct slice to_frames = {OUTPUT, NULL, dealt_n}, to_code = {OUTPUT, NULL, code_n};
     const struct call others[] = {
@@ -434,6 +450,8 @@ static void try_others(void)
         {"pair_evaluate", set, run_evaluate, {a_key, a_label, mixed, to_code}, .n = 4, .number = PAIR_BLOCK_LAYOUT},
         {"pair_deal", set, run_deal, {a_tape, to_frames}, .n = 2, .writes = dealt_n},
         {"pair_join", set, run_join, {share0, share1, to_code}, .n = 3, .writes = code_n},
+        /* One flipped bit makes the lines equal again. */
+        {"pair_join", set, run_join, {share0, other, to_code}, .n = 3, .writes = code_n, .number = PAIR_OTHER_LINE},
     };
     for (size_t i = 0; i < sizeof others / sizeof others[0]; i++)
         try_sets(others[i]);

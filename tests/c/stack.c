@@ -18,7 +18,7 @@
 #include <string.h>
 #include <ucontext.h>
 
-enum { SESSION = 0x01020304, STACK = 65536, PIECE = 8, KIB = 1024 };
+enum { SESSION = 0x01020304, LINE = PAIR_LINE_STORAGE, STACK = 65536, PIECE = 8, KIB = 1024 };
 
 static void fail(const char *name, const char *what)
 {
@@ -52,7 +52,7 @@ static void make_tape(uint64_t start, uint8_t *to_tape, uint8_t *to_dealt)
 {
     size_t tape_n = PAIR_TAPE_BYTES_OF(set);
     made("pair_sample", pair_sample(set, start, source, PAIR_SOURCE_BYTES_OF(set), to_tape, tape_n, &count));
-    made("pair_deal", pair_deal(set, SESSION, to_tape, tape_n, to_dealt, PAIR_DEALT_BYTES_OF(set)));
+    made("pair_deal", pair_deal(set, SESSION, LINE, to_tape, tape_n, to_dealt, PAIR_DEALT_BYTES_OF(set)));
 }
 
 static void make_inputs(void)
@@ -74,8 +74,8 @@ static void make_steps(void)
     uint8_t now[2][PAIR_STATE_BYTES], taken[2][PAIR_MAX_DEAL_FRAME_BYTES], sent[2][PAIR_MAX_STEP_OUTPUT_BYTES];
     for (int side = 0; side < 2; side++) {
         memcpy(taken[side], dealt + (size_t)side * frame_bytes(set, 0), frame_bytes(set, 0));
-        made("pair_begin", pair_begin(set, (uint32_t)side, SESSION, keys[side], PAIR_KEY_BYTES_OF(set), labels[side],
-                                      PAIR_LABEL_BYTES_OF(set), now[side], PAIR_STATE_BYTES));
+        made("pair_begin", pair_begin(set, (uint32_t)side, SESSION, LINE, keys[side], PAIR_KEY_BYTES_OF(set),
+                                      labels[side], PAIR_LABEL_BYTES_OF(set), now[side], PAIR_STATE_BYTES));
     }
     for (int step = 0; step < 3; step++) {
         memcpy(states[step], now[0], PAIR_STATE_BYTES);
@@ -209,10 +209,10 @@ CALL(matrix_read, pair_matrix_read(set, file, FILE_N, out, sizeof out))
 CALL(evaluate, pair_evaluate(set, keys[0], KEY_N, labels[0], KEY_N, file, FILE_N, out, sizeof out))
 CALL(sample, pair_sample(set, 0, source, SOURCE_N, out, sizeof out, &count))
 CALL(sample_inside, pair_sample(set, 1, source, SOURCE_N, out, sizeof out, &count))
-CALL(deal, pair_deal(set, SESSION, tape, PAIR_TAPE_BYTES_OF(set), out, sizeof out))
-CALL(deal_source, pair_deal_source(set, SESSION, 0, source, SOURCE_N, out, sizeof out, &count))
-CALL(deal_source_inside, pair_deal_source(set, SESSION, 1, source, SOURCE_N, out, sizeof out, &count))
-CALL(begin, pair_begin(set, 0, SESSION, keys[0], KEY_N, labels[0], KEY_N, state, sizeof state))
+CALL(deal, pair_deal(set, SESSION, LINE, tape, PAIR_TAPE_BYTES_OF(set), out, sizeof out))
+CALL(deal_source, pair_deal_source(set, SESSION, LINE, 0, source, SOURCE_N, out, sizeof out, &count))
+CALL(deal_source_inside, pair_deal_source(set, SESSION, LINE, 1, source, SOURCE_N, out, sizeof out, &count))
+CALL(begin, pair_begin(set, 0, SESSION, LINE, keys[0], KEY_N, labels[0], KEY_N, state, sizeof state))
 CALL(step_deal, STEP(0))
 CALL(step_open, STEP(1))
 CALL(step_mask, STEP(2))
@@ -235,12 +235,12 @@ static struct call {
     {"pair_deal", deal, 28, NULL, 0},
     {"pair_deal_source", deal_source, 34, NULL, 0},
     {"pair_deal_source, start 1", deal_source_inside, 34, NULL, 0},
-    {"pair_begin", begin, 2, NULL, 0},
+    {"pair_begin", begin, 1, NULL, 0},
     {"pair_step, deal", step_deal, 4, states[0], 0},
     {"pair_step, open", step_open, 31, states[1], 0},
     {"pair_step, mask", step_mask, 13, states[2], 0},
     {"pair_join", join, 3, NULL, 0},
-    {"pair_run", whole_run, 93, NULL, 0},
+    {"pair_run", whole_run, 95, NULL, 0},
 };
 
 static void make_call(const struct call *call, uint8_t pattern, bool wiping)

@@ -1,6 +1,7 @@
 //! A small deterministic generator. One seed serves a whole test binary, so
 //! that a failure can be had again by giving the printed seed back.
 
+use crate::reference::frame::Shared;
 use std::env;
 use std::io::{self, Write};
 use std::sync::OnceLock;
@@ -52,8 +53,11 @@ impl Random {
         (self.word() >> 56) as u8
     }
 
-    pub fn session(&mut self) -> u32 {
-        (self.word() >> 32) as u32
+    /// A session and a line, mostly one of the two that are named.
+    pub fn shared(&mut self) -> Shared {
+        let session = (self.word() >> 32) as u32;
+        let line = if self.once_in(4) { self.byte() } else { self.choose(&[0, 1]) };
+        Shared { session, line }
     }
 
     pub fn bytes(&mut self, length: usize) -> Vec<u8> {

@@ -3,15 +3,16 @@
 
 use crate::reference::bits::part;
 use crate::reference::dealer::Deal;
-use crate::reference::frame::HEADER_BYTES;
+use crate::reference::frame::{Shared, HEADER_BYTES};
 use crate::reference::shape::{Shape, SET_1, SET_3};
 use crate::reference::unit::{Stage, State};
 
-/// Where the stage, the side and the session stand: as kind, side and session do
-/// in a frame. The set comes after them.
+/// Where the stage, the side, the session and the line stand: as kind, side,
+/// session and line do in a frame. The set comes after them.
 pub const STAGE_AT: usize = 0;
 pub const SIDE_AT: usize = 1;
 pub const SESSION_AT: usize = 2;
+pub const LINE_AT: usize = 6;
 pub const SET_AT: usize = HEADER_BYTES;
 const FIELDS_AT: usize = SET_AT + 1;
 
@@ -48,11 +49,12 @@ pub fn padding(shape: Shape) -> Vec<usize> {
     fields(shape).into_iter().flat_map(|(at, length, room)| at + length..at + room).collect()
 }
 
-/// Stage, side, session, set, key half, label half, deal, own mask.
+/// Stage, side, session, line, set, key half, label half, deal, own mask.
 pub fn encode(state: &State) -> Vec<u8> {
     let stage = STAGES.iter().position(|stage| *stage == state.stage);
     let mut bytes = vec![stage.unwrap_or(0) as u8, state.side];
-    bytes.extend(state.session.to_le_bytes());
+    bytes.extend(state.shared.session.to_le_bytes());
+    bytes.push(state.shared.line);
     bytes.push(state.shape.set as u8);
     let deal = &state.deal;
     let strings = [&state.key_half, &state.label_half, &deal.key_mask, &deal.label_mask, &deal.z];
@@ -71,7 +73,7 @@ pub fn counted_set(byte: u8) -> Shape {
 /// The state that these bytes stand for, if they have the right length, a side
 /// and a stage; what other bytes stand for is the library's choice.
 pub fn decode(bytes: &[u8]) -> Option<State> {
-    let [stage, side @ (0 | 1), a, b, c, d, set, ..] = bytes else {
+    let [stage, side @ (0 | 1), a, b, c, d, line, set, ..] = bytes else {
         return None;
     };
     if bytes.len() != STATE_BYTES {
@@ -83,7 +85,7 @@ pub fn decode(bytes: &[u8]) -> Option<State> {
     Some(State {
         shape,
         side: *side,
-        session: u32::from_le_bytes([*a, *b, *c, *d]),
+        shared: Shared { session: u32::from_le_bytes([*a, *b, *c, *d]), line: *line },
         stage: *STAGES.get(usize::from(*stage))?,
         key_half,
         label_half,
@@ -104,7 +106,7 @@ mod tests {
         let mut random = Random::for_test("state layout");
         for shape in SETS {
             let [key, label] = [shape.string_bytes(); 2].map(|length| random.bytes(length));
-            let (_, begun) = begin(shape, 1, 77, &key, &label);
+            let (_, begun) = begin(shape, 1, random.shared(), &key, &label);
             for state in [begun, State::idle()] {
                 assert_eq!(encode(&state).len(), STATE_BYTES);
                 assert_eq!(decode(&encode(&state)), Some(state));
@@ -115,12 +117,12 @@ mod tests {
 
     /// The layout in the header of the C interface.
     #[test]
-    fn every_set_has_519_bytes() {
-        assert_eq!(STATE_BYTES, 519);
+    fn every_set_has_520_bytes() {
+        assert_eq!(STATE_BYTES, 520);
         assert_eq!(SETS.map(|shape| padding(shape).len()), [6 * 32 + 64, 6 * 56 + 112, 0]);
         let idle = encode(&State::idle());
         let nonzero = (0..STATE_BYTES).filter(|at| idle[*at] != 0);
-        assert_eq!(nonzero.map(|at| (at, idle[at])).collect::<Vec<_>>(), [(6, 1)]);
+        assert_eq!(nonzero.map(|at| (at, idle[at])).collect::<Vec<_>>(), [(7, 1)]);
         for byte in 0..=255 {
             let counted = [SET_1, SET_2, SET_3][if let 2 | 3 = byte { byte - 1 } else { 0 }];
             assert_eq!(counted_set(byte as u8), counted);

@@ -10,6 +10,7 @@ use service_pair_tests::reference::program::digits;
 use service_pair_tests::reference::shape::{Shape, SETS, SET_1};
 use service_pair_tests::reference::trits::pack_trits;
 use service_pair_tests::samples::{damage_file, fit_file, FileFault};
+use service_pair_tests::state_layout::LINE_AT;
 use std::collections::{BTreeMap, BTreeSet};
 use std::env;
 use std::fs;
@@ -46,10 +47,10 @@ struct Files {
 }
 
 impl Files {
-    /// A fit matrix and two fit share frames of one session.
+    /// A fit matrix and two fit share frames of one session and line.
     fn fit(random: &mut Random, shape: Shape) -> Files {
-        let session = random.session();
-        let shares = [0, 1].map(|side| frame_of(SHARE, side, session, &fit_share(random, shape)));
+        let shared = random.shared();
+        let shares = [0, 1].map(|side| frame_of(SHARE, side, shared, &fit_share(random, shape)));
         Files { shape, matrix: fit_file(random, shape), shares }
     }
 
@@ -121,7 +122,7 @@ fn compare(random: &mut Random, folder: &Path, files: &Files) -> (u32, String) {
 type Fault = fn(&mut Random, &mut Files);
 
 /// Single faults, each with its number.
-const FAULTS: [(u32, Fault); 14] = [
+const FAULTS: [(u32, Fault); 15] = [
     (1, |_, files| files.matrix.truncate(files.shape.file_bytes() - 1)),
     (1, |_, files| files.matrix.push(0)),
     (1, |_, files| files.matrix.clear()),
@@ -129,7 +130,7 @@ const FAULTS: [(u32, Fault); 14] = [
     (9, |random, files| damage(random, files, FileFault::UnusedByte)),
     (10, |random, files| damage(random, files, FileFault::UnfitTrit)),
     (12, |random, files| damage(random, files, FileFault::ZeroRow)),
-    (3, |random, files| files.shares[random.below(2)].truncate(5)),
+    (3, |random, files| files.shares[random.below(2)].truncate(HEADER_BYTES - 1)),
     (3, |random, files| files.shares[random.below(2)][0] = 3),
     (4, |random, files| files.shares[random.below(2)].push(0)),
     (5, |random, files| files.shares[random.below(2)][2] ^= 1),
@@ -141,6 +142,7 @@ const FAULTS: [(u32, Fault); 14] = [
     }),
     // The highest bit of a plane is a digit's in no set.
     (11, |random, files| files.shares[random.below(2)][files.shape.share_bytes() - 1] |= 0x80),
+    (15, |random, files| files.shares[random.below(2)][LINE_AT] ^= 1),
 ];
 
 fn damage(random: &mut Random, files: &mut Files, fault: FileFault) {
@@ -176,8 +178,8 @@ fn the_counter_reader_has_a_message_for_each_number() {
             texts.insert(text, number);
         }
     }
-    // No two of the numbers 1, 3 to 6 and 8 to 12 have the same text, in any set.
-    assert_eq!(texts.len(), 10, "{texts:?}");
+    // No two of the numbers 1, 3 to 6, 8 to 12 and 15 have the same text, in any set.
+    assert_eq!(texts.len(), 11, "{texts:?}");
     report("examples: refusals of the counter reader", SETS.len() * FAULTS.len());
 }
 
@@ -208,7 +210,7 @@ fn missing_files_and_words_are_said() {
     let mut command = Command::new(example("counter_reader"));
     command.current_dir(folder("counter_reader_missing")).args(["nothing", "share0", "share1"]);
     assert!(said(&mut command).starts_with("nothing: "));
-    for (name, words) in [("counter_reader", 0), ("counter_reader", 5), ("two_units", 3)] {
+    for (name, words) in [("counter_reader", 0), ("counter_reader", 5), ("two_units", 4)] {
         let usage = said(Command::new(example(name)).args(vec!["1"; words]));
         assert!(usage.starts_with(&format!("usage: {name} ")), "{usage}");
     }
@@ -226,13 +228,23 @@ fn words_that_are_no_set_are_said() {
     report("examples: words that are no set", 2 * wrong.len());
 }
 
+#[test]
+fn words_that_are_no_line_are_said() {
+    let wrong = ["256", "999999999999", "", "1 ", "-1", "x", "0x1"];
+    for word in wrong {
+        let expected = format!("a line is 0 to 255, not '{word}'\n");
+        assert_eq!(said(Command::new(example("two_units")).args(["1", word])), expected);
+    }
+    report("examples: words that are no line", wrong.len());
+}
+
 /// The sessions that `two_units` runs.
 const SESSIONS: usize = 3;
 
 /// What `two_units` prints: each session's code twice, and that they are equal.
-/// Gives the codes of the sessions before the last, whose line is given.
-fn earlier_codes<'a>(output: &'a str, line: &str) -> Vec<&'a str> {
-    let last = format!("two units  {line}evaluator  {line}equal\n");
+/// Gives the codes of the sessions before the last, whose code is given.
+fn earlier_codes<'a>(output: &'a str, code: &str) -> Vec<&'a str> {
+    let last = format!("two units  {code}evaluator  {code}equal\n");
     let before = output.strip_suffix(&last).expect("the last session's code, and equal");
     let lines: Vec<&str> = before.lines().collect();
     assert_eq!(lines.len(), 2 * (SESSIONS - 1), "{output}");
@@ -251,16 +263,19 @@ fn two_units_agree_with_the_evaluator() {
     let count = 10;
     for shape in SETS {
         for _ in 0..count {
+            let line = random.shared().line;
             let mut command = Command::new(example("two_units"));
-            let (status, output, message) = run(command.arg(shape.set.to_string()).arg(&folder));
+            command.args([shape.set.to_string(), line.to_string()]).arg(&folder);
+            let (status, output, message) = run(&mut command);
             assert_eq!((status, &message[..]), (Some(0), ""));
             // What the counter had last, judged by the reference.
             let files = Files::load(&folder, shape);
-            let (number, line) = files.expected();
+            assert!(files.shares.iter().all(|share| share[LINE_AT] == line));
+            let (number, printed) = files.expected();
             assert_eq!(number, DONE);
             // Each session has its own code.
-            let earlier = earlier_codes(&output, &line);
-            let codes: BTreeSet<&str> = earlier.into_iter().chain([line.trim_end()]).collect();
+            let earlier = earlier_codes(&output, &printed);
+            let codes: BTreeSet<&str> = earlier.into_iter().chain([printed.trim_end()]).collect();
             assert_eq!(codes.len(), SESSIONS, "{output}");
             assert!(codes.iter().all(|code| code.len() == shape.digits), "{output}");
             assert_eq!(compare(&mut random, &folder, &files).0, DONE);

@@ -3,7 +3,7 @@ use Prim.Native.Nat.{ℕ}
 use mathlib.Core.List.{List}
 use lib.Dec.{lit≤}
 use Rattle.numbers.specs.Lowest.{RisingFrom}
-use Rattle.numbers.proofs.Lowest.{rising-from}
+use Rattle.numbers.proofs.Lowest.{rising-from, UpTo}
 use Rattle.numbers.specs.Sets.{LowestIn}
 use Rattle.matrix_model.specs.Block.{Layout}
 use Rattle.matrix_model.specs.File.{faultsOf, rowFaultsOf, checkConditionsOf, readConditionsOf, writeConditionsOf, layoutOf, checkNumber, readNumber, writeNumber}
@@ -13,6 +13,10 @@ use Rattle.numbers.proofs.Sets.{lowest-in}
 pub faults-rise : (layout : Layout) (file : List ℕ) → RisingFrom 8 (faultsOf layout file)
 unfolding faultsOf
 faults-rise layout file = (lit≤ tt, (lit≤ tt, (lit≤ tt, (lit≤ tt, tt))))
+
+pub faults-up-to : (layout : Layout) (file : List ℕ) → UpTo 12 (faultsOf layout file)
+unfolding faultsOf
+faults-up-to layout file = (lit≤ tt, (lit≤ tt, (lit≤ tt, (lit≤ tt, tt))))
 
 -- 10, 12
 row-faults-rise : (layout : Layout) (rows : List ℕ) → RisingFrom 10 (rowFaultsOf layout rows)

@@ -1,5 +1,5 @@
 -- Where the numbers of a list rise, the first whose condition holds is the lowest.
-use Prim.Native.Nat.{ℕ, zero, suc, _≤_}
+use Prim.Native.Nat.{ℕ, zero, suc, _≤_, _<_}
 use mathlib.Core.Path.{_≡_, refl}
 use mathlib.Core.Logic.{inl, inr, ⊎-elim}
 use mathlib.Core.List.{List, [], _∷_, _++_}
@@ -8,7 +8,7 @@ use native.Mathlib.Omega.{arith}
 use native.Mathlib.Nat.{le-refl, suc-ne-zero}
 use lib.Dec.{ltb, ltb→lt}
 use Rattle.numbers.specs.Number.{Condition, _when_, first, insert, merge}
-use Rattle.numbers.proofs.Numbers.{holds as is-set, is-at-least}
+use Rattle.numbers.proofs.Numbers.{holds as is-set, is-at-least, Positive}
 use Rattle.numbers.specs.Lowest.{Holds, Lowest, RisingFrom, Rising}
 
 -- ---- lists that rise
@@ -18,10 +18,20 @@ pub rising-from : (m n : ℕ) (cs : List Condition) → m ≤ n → RisingFrom n
 rising-from m n [] h r = tt
 rising-from m n (number when b ∷ cs) h r = (omega (arith, r .0), r .1)
 
--- no conditions after others change nothing
-pub rising-end : (n : ℕ) (cs : List Condition) → RisingFrom n cs → RisingFrom n (cs ++ [])
-rising-end n [] r = tt
-rising-end n (number when b ∷ cs) r = (r .0, rising-end number cs (r .1))
+-- no number is above m
+abbrev pub UpTo : ℕ → List Condition → Type 0
+UpTo m [] = Unit {0}
+UpTo m (number when b ∷ cs) = (number ≤ m) × UpTo m cs
+
+-- one that is at least all before it comes last
+pub rising-last : (n k m : ℕ) (b : Bool) (cs : List Condition) → n ≤ m → k ≤ m → RisingFrom n cs → UpTo k cs → RisingFrom n (cs ++ m when b ∷ [])
+rising-last n k m b [] h l r u = (h, tt)
+rising-last n k m b (number when c ∷ cs) h l r u = (r .0, rising-last number k m b cs (omega (arith, u .0)) l (r .1) (u .1))
+
+-- numbers that rise from above 0 on are above 0
+pub rising-positive : (n : ℕ) (cs : List Condition) → 0 < n → RisingFrom n cs → Positive cs
+rising-positive n [] h r = tt
+rising-positive n (number when b ∷ cs) h r = (omega (arith, r .0), rising-positive number cs (omega (arith, r .0)) (r .1))
 
 -- a condition put among others
 rising-insert : (n number : ℕ) (b : Bool) (cs : List Condition) → n ≤ number → RisingFrom n cs → RisingFrom n (insert (number when b) cs)

@@ -113,6 +113,13 @@ first-after [] l p e = refl
 first-after (number when true ∷ k) l p e = absurd (omega (arith, p .0))
 first-after (number when false ∷ k) l p e = first-after k l (p .1) e
 
+-- where each gives 0, both do
+pub first-both : (k l : List Condition) → first k ≡ 0 → first l ≡ 0 → first (k ++ l) ≡ 0
+unfolding first
+first-both [] l e h = h
+first-both (number when true ∷ k) l e h = e
+first-both (number when false ∷ k) l e h = first-both k l e h
+
 -- where both give 0, no condition of the first holds
 pub none-before : (k l : List Condition) → Positive k → first (k ++ l) ≡ 0 → NoneHolds k
 none-before [] l p e = tt

@@ -42,3 +42,6 @@ pub const SHORT_SOURCE: u32 = 13;
 
 // A call names a set other than 1 to 3.
 pub const NO_SET: u32 = 14;
+
+// A frame of another line than the unit's; in join, the two differ.
+pub const OTHER_LINE: u32 = 15;

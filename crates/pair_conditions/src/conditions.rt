@@ -1,4 +1,5 @@
-// The number of a step: the lengths decide first, then the header and what the unit waits for, then what the frame brings.
+// The number of a step: the lengths decide first, then the header and what the unit waits for, then what the frame brings, and
+// last its line.
 // No half and nothing of a deal is read but its r.
 ghost use mathlib.Core.Path.{_≡_};
 ghost use lib.Dec.{eqb};
@@ -22,6 +23,7 @@ use pair_frames::frame::MASK;
 use pair_frames::frame::OPEN;
 use pair_frames::frame::frame_bytes;
 use pair_frames::frame::header_number;
+use pair_frames::frame::line_number;
 use pair_frames::frame::read_header;
 use pair_frames::header::Header;
 use pair_frames::parameters::Parameters;
@@ -76,7 +78,7 @@ fn frame_number(sizes: Sizes, parameters: Parameters, stage: u8, f: &[u8]) -> u3
         kind,
         side: named,
         session: number,
-        body: _,
+        ..
     } = h
     else {
         return header_number(h);
@@ -136,5 +138,9 @@ pub fn step_number(
     if of_frame != DONE {
         return of_frame;
     }
-    content_number(sizes, f, file)
+    let of_content = content_number(sizes, f, file);
+    if of_content != DONE {
+        return of_content;
+    }
+    line_number(parameters.line, f)
 }

@@ -12,7 +12,7 @@ ghost use Rattle.pair_frames.specs.Schemes.{schemeIn, Fits};
 ghost use Rattle.numbers.specs.Sets.{numberIn};
 ghost use Rattle.pair_model.specs.Base.{schemeOf};
 ghost use Rattle.pair_model.specs.Frame.{shareKind, frameBytes, bodyOf, codeBytes};
-ghost use Rattle.pair_model.specs.Join.{joinConditions, joinNumber, joined};
+ghost use Rattle.pair_model.specs.Join.{joinHeaderConditions, joinConditions, joinNumber, joined};
 use linear::trits::add_trits;
 use linear::trits::spare_bits_clear;
 use linear::trits::trits_fit;
@@ -26,6 +26,8 @@ use numbers::table::WRONG_LENGTH;
 use pair_frames::frame::SHARE;
 use pair_frames::frame::code_bytes;
 use pair_frames::frame::header_number;
+use pair_frames::frame::line_number;
+use pair_frames::frame::line_of;
 use pair_frames::frame::read_header;
 use pair_frames::header::Header;
 use pair_frames::sets::is_set;
@@ -73,14 +75,11 @@ fn share_number(sizes: Sizes, f: &[u8]) -> u32
     if clear { DONE } else { UNUSED_BIT }
 }
 
-// The number of a join.
-fn join_number(sizes: Sizes, f: &[u8], g: &[u8], room: usize) -> u32
+// The number as far as both headers decide it.
+fn headers_number(sizes: Sizes, f: &[u8], g: &[u8]) -> u32
     requires { ⌜ Fits sizes ⌝ }
-    ensures { λ n. ⌜ n ≡ joinNumber (schemeIn sizes) (now (f .entry)) (now (g .entry)) room ⌝ }
+    ensures { λ n. ⌜ n ≡ first (joinHeaderConditions (schemeIn sizes) (now (f .entry)) (now (g .entry))) ⌝ }
 {
-    if room < code_bytes(sizes) {
-        return WRONG_LENGTH;
-    }
     let p = read_header(sizes, f, SHARE, SHARE);
     let q = read_header(sizes, g, SHARE, SHARE);
     let refusal = lower(header_number(p), header_number(q));
@@ -109,7 +108,26 @@ fn join_number(sizes: Sizes, f: &[u8], g: &[u8], room: usize) -> u32
     if side_g != 1 {
         return OTHER_SIDE;
     }
-    lower(share_number(sizes, f), share_number(sizes, g))
+    DONE
+}
+
+// The number of a join: the room decides first, then both headers, both shares, and last the lines.
+fn join_number(sizes: Sizes, f: &[u8], g: &[u8], room: usize) -> u32
+    requires { ⌜ Fits sizes ⌝ }
+    ensures { λ n. ⌜ n ≡ joinNumber (schemeIn sizes) (now (f .entry)) (now (g .entry)) room ⌝ }
+{
+    if room < code_bytes(sizes) {
+        return WRONG_LENGTH;
+    }
+    let of_headers = headers_number(sizes, f, g);
+    if of_headers != DONE {
+        return of_headers;
+    }
+    let of_shares = lower(share_number(sizes, f), share_number(sizes, g));
+    if of_shares != DONE {
+        return of_shares;
+    }
+    line_number(line_of(g), f)
 }
 
 // The code of two share frames that fit: their bodies added modulo 3. No branch depends on them.

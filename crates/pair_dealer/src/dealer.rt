@@ -53,40 +53,49 @@ fn deal_number(sizes: Sizes, tape: &[u8], room: usize) -> u32
 }
 
 // Deals a tape: the accepted ones and no other.
-fn deal_sized(sizes: Sizes, session: u32, tape: &[u8], out: &mut [u8]) -> u32
+fn deal_sized(sizes: Sizes, session: u32, line: u8, tape: &[u8], out: &mut [u8]) -> u32
     requires { ⌜ Fits sizes ⌝ }
     ensures result { λ n. ⌜ n ≡ dealNumber (schemeIn sizes) noFiles (now (tape .entry)) (length (now (out .entry))) ⌝ }
-    ensures output { λ n. ⌜ now (out .exit) ≡ output n (dealt (schemeIn sizes) (sharedParameters session) noFiles (now (tape .entry))) (now (out .entry)) ⌝ }
+    ensures output { λ n. ⌜ now (out .exit) ≡ output n (dealt (schemeIn sizes) (sharedParameters session line) noFiles (now (tape .entry))) (now (out .entry)) ⌝ }
 {
     let number = deal_number(sizes, tape, out.len());
     if number != DONE {
         return number;
     }
-    write_deal(sizes, session, tape, out);
+    write_deal(sizes, session, line, tape, out);
     DONE
 }
 
 // The same in a set. Its frames stand in the views that `Privacy` speaks of, one pairing of accepted tapes for all lists.
-pub fn deal(set: u32, session: u32, tape: &[u8], out: &mut [u8]) -> u32
+pub fn deal(set: u32, session: u32, line: u8, tape: &[u8], out: &mut [u8]) -> u32
     ensures result { λ n. ⌜ n ≡ numberIn set (dealConditions (schemeOf set) noFiles (now (tape .entry)) (length (now (out .entry)))) ⌝ }
-    ensures output { λ n. ⌜ now (out .exit) ≡ output n (dealt (schemeOf set) (sharedParameters session) noFiles (now (tape .entry))) (now (out .entry)) ⌝ }
+    ensures output { λ n. ⌜ now (out .exit) ≡ output n (dealt (schemeOf set) (sharedParameters session line) noFiles (now (tape .entry))) (now (out .entry)) ⌝ }
     ensures accepted_tapes { λ _. ⌜ InEachSet TakesAccepted ⌝ }
     ensures privacy { λ _. ⌜ InEachSet (λ S. Privacy (protocol S)) ⌝ }
 {
     if is_set(set) {
-        return deal_sized(sizes_of(set), session, tape, out);
+        // All of the tape, sliced once more for speed: a slice that is passed on as it came is copied by one load, which waits
+        // for the two stores of its pointer and its length.
+        return deal_sized(sizes_of(set), session, line, &tape[0..], out);
     }
     NO_SET
 }
 
 // Deals the tape that the sampler draws of source bytes from pair `start` on.
-fn deal_source_sized(sizes: Sizes, session: u32, start: u64, source: &[u8], out: &mut [u8]) -> Draw
+fn deal_source_sized(
+    sizes: Sizes,
+    session: u32,
+    line: u8,
+    start: u64,
+    source: &[u8],
+    out: &mut [u8],
+) -> Draw
     requires { ⌜ Fits sizes ⌝ }
     ensures result { λ d. ⌜ d .result ≡ dealSourceNumber (schemeIn sizes) noFiles (now (source .entry)) start (length (now (out .entry))) ⌝ }
     ensures next { λ d. ⌜ d .next ≡ reported (d .result) (nextPair (schemeIn sizes) (now (source .entry)) start) ⌝ }
     ensures output { λ d. ⌜
         now (out .exit) ≡
-        output (d .result) (dealt (schemeIn sizes) (sharedParameters session) noFiles (sampled (schemeIn sizes) (now (source .entry)) start)) (now (out .entry))
+        output (d .result) (dealt (schemeIn sizes) (sharedParameters session line) noFiles (sampled (schemeIn sizes) (now (source .entry)) start)) (now (out .entry))
         ⌝ }
 {
     let key_bytes = sizes.key_bytes;
@@ -98,24 +107,31 @@ fn deal_source_sized(sizes: Sizes, session: u32, start: u64, source: &[u8], out:
     let mut tape = [0u8; TAPE_ROOM];
     let d = sample_sized(sizes, start, source, &mut tape[..tape_bytes]);
     if d.result == DONE {
-        write_deal(sizes, session, &tape[..tape_bytes], out);
+        write_deal(sizes, session, line, &tape[..tape_bytes], out);
     }
     d
 }
 
 // The same in a set. Draws that follow one another share no pair.
-pub fn deal_source(set: u32, session: u32, start: u64, source: &[u8], out: &mut [u8]) -> Draw
+pub fn deal_source(
+    set: u32,
+    session: u32,
+    line: u8,
+    start: u64,
+    source: &[u8],
+    out: &mut [u8],
+) -> Draw
     ensures result { λ d. ⌜ d .result ≡ numberIn set (dealSourceConditions (schemeOf set) noFiles (now (source .entry)) start (length (now (out .entry)))) ⌝ }
     ensures next { λ d. ⌜ d .next ≡ reported (d .result) (nextPair (schemeOf set) (now (source .entry)) start) ⌝ }
     ensures output { λ d. ⌜
         now (out .exit) ≡
-        output (d .result) (dealt (schemeOf set) (sharedParameters session) noFiles (sampled (schemeOf set) (now (source .entry)) start)) (now (out .entry))
+        output (d .result) (dealt (schemeOf set) (sharedParameters session line) noFiles (sampled (schemeOf set) (now (source .entry)) start)) (now (out .entry))
         ⌝ }
     ensures disjoint { λ _. ⌜ DisjointDraws ⌝ }
     ensures privacy { λ _. ⌜ InEachSet (λ S. Privacy (protocol S)) ⌝ }
 {
     if is_set(set) {
-        return deal_source_sized(sizes_of(set), session, start, source, out);
+        return deal_source_sized(sizes_of(set), session, line, start, source, out);
     }
     refused(NO_SET)
 }

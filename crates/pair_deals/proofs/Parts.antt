@@ -15,7 +15,7 @@ use Rattle.linear_model.proofs.Vectors.{bytes-subtract}
 use Rattle.numbers.specs.Number.{output}
 use Rattle.pair_model.specs.Scheme.{noFiles, Side, side0, side1, concat}
 use Rattle.pair_model.specs.Tape.{tapeBytes, K̃, x̃, w̃, z, r, r0, deal}
-use Rattle.pair_model.specs.Frame.{sharedParameters, parametersOf, dealKind, header, frame, frameBytes, headerBytes}
+use Rattle.pair_model.specs.Frame.{SharedParameters, parametersOf, dealKind, header, frame, frameBytes, headerBytes}
 use Rattle.pair_model.specs.Dealer.{dealFrame, dealt, dealtBytes}
 use Rattle.pair_model.proofs.Internal.Fields.{tape-K̃0, tape-K̃1, tape-x̃0, tape-x̃1, tape-w̃, tape-z0, tape-r0}
 use Rattle.pair_model.proofs.Internal.Deals.{fit-r0, deal-written}
@@ -100,12 +100,12 @@ module _ (sizes : Sizes) (t : List ℕ) where
   first-r = let e : 4 * key sizes + inner sizes + inner sizes ≡ 4 * key sizes + 2 * inner sizes = omega arith in ap (λ (k : ℕ). take (2 * inner sizes) (drop k t)) e ∙ tape-r0 (schemeIn sizes) t
 
   -- a frame of its header and four fields
-  deal-fields : (session : ℕ) (i : Side) (d o h a b c v : List ℕ) → FieldsCopied (headerBytes + key sizes + key sizes + inner sizes + 2 * inner sizes) (h ∷ a ∷ b ∷ c ∷ v ∷ []) d o
-      → h ≡ header dealKind (parametersOf i (sharedParameters session)) → a ≡ K̃ (schemeIn sizes) t i → b ≡ x̃ (schemeIn sizes) t i
+  deal-fields : (shared : SharedParameters) (i : Side) (d o h a b c v : List ℕ) → FieldsCopied (headerBytes + key sizes + key sizes + inner sizes + 2 * inner sizes) (h ∷ a ∷ b ∷ c ∷ v ∷ []) d o
+      → h ≡ header dealKind (parametersOf i shared) → a ≡ K̃ (schemeIn sizes) t i → b ≡ x̃ (schemeIn sizes) t i
       → c ≡ z (schemeIn sizes) noFiles t i → v ≡ r (schemeIn sizes) t i
-      → o ≡ dealFrame (schemeIn sizes) (sharedParameters session) noFiles t i ++ drop (frameBytes (schemeIn sizes) dealKind) d
+      → o ≡ dealFrame (schemeIn sizes) shared noFiles t i ++ drop (frameBytes (schemeIn sizes) dealKind) d
   unfolding dealFrame deal frame concat
-  deal-fields session i d o h a b c v f eh ea eb ec ev =
+  deal-fields shared i d o h a b c v f eh ea eb ec ev =
       let n = key sizes in
       let m = inner sizes in
       let q : headerBytes + n + n + m + 2 * m ≡ frameBytes (schemeIn sizes) dealKind = omega arith in
@@ -115,7 +115,7 @@ module _ (sizes : Sizes) (t : List ℕ) where
   part-size : (a k : ℕ) → a + k ≤ length t → length (take k (drop a t)) ≡ k
   part-size a k h = length-take-le k (drop a t) (rw length-drop (omega arith))
 
-  module _ (session : ℕ) (d h : List ℕ) (l : length t ≡ tapeBytes (schemeIn sizes)) (room : frameBytes (schemeIn sizes) dealKind ≤ length d) (i : Side) (is : h ≡ header dealKind (parametersOf i (sharedParameters session))) where
+  module _ (shared : SharedParameters) (d h : List ℕ) (l : length t ≡ tapeBytes (schemeIn sizes)) (room : frameBytes (schemeIn sizes) dealKind ≤ length d) (i : Side) (is : h ≡ header dealKind (parametersOf i shared)) where
     -- header, K̃i and x̃i in front
     front-fields : (j k : ℕ) (o₀ o₁ o₂ : List ℕ) → j + key sizes ≤ length t → k + key sizes ≤ length t → o₀ ≡ pasted 0 h d → o₁ ≡ pasted headerBytes (take (key sizes) (drop j t)) o₀
         → o₂ ≡ pasted (headerBytes + key sizes) (take (key sizes) (drop k t)) o₁
@@ -127,30 +127,30 @@ module _ (sizes : Sizes) (t : List ℕ) where
         fields-more f₁ n (take n (drop k t)) o₂ (part-size k n hk) (omega arith) e₂
 
   -- unit 0's frame, field by field
-  pub first-frame : (session : ℕ) (d h o₀ o₁ o₂ o₃ o₄ : List ℕ) → length t ≡ tapeBytes (schemeIn sizes) → frameBytes (schemeIn sizes) dealKind ≤ length d
-      → h ≡ header dealKind (parametersOf side0 (sharedParameters session)) → o₀ ≡ pasted 0 h d → o₁ ≡ pasted headerBytes (take (key sizes) (drop 0 t)) o₀
+  pub first-frame : (shared : SharedParameters) (d h o₀ o₁ o₂ o₃ o₄ : List ℕ) → length t ≡ tapeBytes (schemeIn sizes) → frameBytes (schemeIn sizes) dealKind ≤ length d
+      → h ≡ header dealKind (parametersOf side0 shared) → o₀ ≡ pasted 0 h d → o₁ ≡ pasted headerBytes (take (key sizes) (drop 0 t)) o₀
       → o₂ ≡ pasted (headerBytes + key sizes) (take (key sizes) (drop (2 * key sizes) t)) o₁
       → o₃ ≡ pasted (headerBytes + key sizes + key sizes) (take (inner sizes) (drop (4 * key sizes + inner sizes) t)) o₂
       → o₄ ≡ pasted (headerBytes + key sizes + key sizes + inner sizes) (take (2 * inner sizes) (drop (4 * key sizes + inner sizes + inner sizes) t)) o₃
-      → o₄ ≡ dealFrame (schemeIn sizes) (sharedParameters session) noFiles t side0 ++ drop (frameBytes (schemeIn sizes) dealKind) d
-  first-frame session d h o₀ o₁ o₂ o₃ o₄ l room is e₀ e₁ e₂ e₃ e₄ =
+      → o₄ ≡ dealFrame (schemeIn sizes) shared noFiles t side0 ++ drop (frameBytes (schemeIn sizes) dealKind) d
+  first-frame shared d h o₀ o₁ o₂ o₃ o₄ l room is e₀ e₁ e₂ e₃ e₄ =
       let n = key sizes in
       let m = inner sizes in
       let S = schemeIn sizes in
-      let f₂ = front-fields session d h l room side0 is 0 (2 * n) o₀ o₁ o₂ (omega arith) (omega arith) e₀ e₁ e₂ in
+      let f₂ = front-fields shared d h l room side0 is 0 (2 * n) o₀ o₁ o₂ (omega arith) (omega arith) e₀ e₁ e₂ in
       let f₃ = fields-more f₂ m (take m (drop (4 * n + m) t)) o₃ (part-size (4 * n + m) m (omega arith)) (omega arith) e₃ in
       let f₄ = fields-more f₃ (2 * m) (take (2 * m) (drop (4 * n + m + m) t)) o₄ (part-size (4 * n + m + m) (2 * m) (omega arith)) (omega arith) e₄ in
-      deal-fields session side0 d o₄ h _ _ _ _ f₄ is (tape-K̃0 S t) (tape-x̃0 S t) first-z first-r
+      deal-fields shared side0 d o₄ h _ _ _ _ f₄ is (tape-K̃0 S t) (tape-x̃0 S t) first-z first-r
 
   -- unit 1's, whose z1 and r1 are written where they stand
-  pub second-frame : (session : ℕ) (d h o₀ o₁ o₂ v w : List ℕ) → length t ≡ tapeBytes (schemeIn sizes) → frameBytes (schemeIn sizes) dealKind ≤ length d
-      → h ≡ header dealKind (parametersOf side1 (sharedParameters session)) → o₀ ≡ pasted 0 h d → o₁ ≡ pasted headerBytes (take (key sizes) (drop (key sizes) t)) o₀
+  pub second-frame : (shared : SharedParameters) (d h o₀ o₁ o₂ v w : List ℕ) → length t ≡ tapeBytes (schemeIn sizes) → frameBytes (schemeIn sizes) dealKind ≤ length d
+      → h ≡ header dealKind (parametersOf side1 shared) → o₀ ≡ pasted 0 h d → o₁ ≡ pasted headerBytes (take (key sizes) (drop (key sizes) t)) o₀
       → o₂ ≡ pasted (headerBytes + key sizes) (take (key sizes) (drop (3 * key sizes) t)) o₁
       → v ≡ z (schemeIn sizes) noFiles t side1 → w ≡ r (schemeIn sizes) t side1
       → (let at : ℕ = headerBytes + key sizes + key sizes in let o₃ = take at o₂ ++ (v ++ drop (at + inner sizes - at) (drop at o₂)) in
       take (at + inner sizes) o₃ ++ (w ++ drop (at + inner sizes + 2 * inner sizes - (at + inner sizes)) (drop (at + inner sizes) o₃)))
-      ≡ dealFrame (schemeIn sizes) (sharedParameters session) noFiles t side1 ++ drop (frameBytes (schemeIn sizes) dealKind) d
-  second-frame session d h o₀ o₁ o₂ v w l room is e₀ e₁ e₂ ev ew =
+      ≡ dealFrame (schemeIn sizes) shared noFiles t side1 ++ drop (frameBytes (schemeIn sizes) dealKind) d
+  second-frame shared d h o₀ o₁ o₂ v w l room is e₀ e₁ e₂ ev ew =
       let n = key sizes in
       let m = inner sizes in
       let S = schemeIn sizes in
@@ -158,23 +158,23 @@ module _ (sizes : Sizes) (t : List ℕ) where
       let o₃ : List ℕ = take at o₂ ++ (v ++ drop (at + m - at) (drop at o₂)) in
       let lv : length v ≡ m = ap length ev ∙ z-long in
       let lw : length w ≡ 2 * m = ap length ew ∙ r-long in
-      let f₂ = front-fields session d h l room side1 is n (3 * n) o₀ o₁ o₂ (omega arith) (omega arith) e₀ e₁ e₂ in
+      let f₂ = front-fields shared d h l room side1 is n (3 * n) o₀ o₁ o₂ (omega arith) (omega arith) e₀ e₁ e₂ in
       let f₃ = fields-more f₂ m v o₃ lv (omega arith) (part-pasted at (at + m - at) o₂ v (omega arith)) in
       let f₄ = fields-more f₃ (2 * m) w _ lw (omega arith) (part-pasted (at + m) (at + m + 2 * m - (at + m)) o₃ w (omega arith)) in
-      deal-fields session side1 d _ h _ _ _ _ f₄ is (tape-K̃1 S t) (tape-x̃1 S t) ev ew
+      deal-fields shared side1 d _ h _ _ _ _ f₄ is (tape-K̃1 S t) (tape-x̃1 S t) ev ew
 
   -- the second frame behind the first, whose length the code adds up in its own way
-  pub deal-behind : (session x : ℕ) → x ≡ frameBytes (schemeIn sizes) dealKind → (d o p : List ℕ) → length t ≡ tapeBytes (schemeIn sizes) → dealtBytes (schemeIn sizes) ≤ length d
-      → o ≡ dealFrame (schemeIn sizes) (sharedParameters session) noFiles t side0 ++ drop (frameBytes (schemeIn sizes) dealKind) d
-      → p ≡ dealFrame (schemeIn sizes) (sharedParameters session) noFiles t side1 ++ drop (frameBytes (schemeIn sizes) dealKind) (take (length o - x) (drop x o))
-      → take x o ++ (p ++ drop (length o - x) (drop x o)) ≡ output 0 (dealt (schemeIn sizes) (sharedParameters session) noFiles t) d
-  deal-behind session x e d o p l h eo ep =
+  pub deal-behind : (shared : SharedParameters) (x : ℕ) → x ≡ frameBytes (schemeIn sizes) dealKind → (d o p : List ℕ) → length t ≡ tapeBytes (schemeIn sizes) → dealtBytes (schemeIn sizes) ≤ length d
+      → o ≡ dealFrame (schemeIn sizes) shared noFiles t side0 ++ drop (frameBytes (schemeIn sizes) dealKind) d
+      → p ≡ dealFrame (schemeIn sizes) shared noFiles t side1 ++ drop (frameBytes (schemeIn sizes) dealKind) (take (length o - x) (drop x o))
+      → take x o ++ (p ++ drop (length o - x) (drop x o)) ≡ output 0 (dealt (schemeIn sizes) shared noFiles t) d
+  deal-behind shared x e d o p l h eo ep =
       let S = schemeIn sizes in
       let n = key sizes in
       let m = inner sizes in
       (λ i. take (e i) o ++ (p ++ drop (length o - e i) (drop (e i) o)))
-      ∙ deal-written S (sharedParameters session) noFiles t d o p l h eo
-      (ep ∙ (λ i. dealFrame S (sharedParameters session) noFiles t side1 ++ drop (frameBytes S dealKind) (take (length o - e i) (drop (e i) o))))
+      ∙ deal-written S shared noFiles t d o p l h eo
+      (ep ∙ (λ i. dealFrame S shared noFiles t side1 ++ drop (frameBytes S dealKind) (take (length o - e i) (drop (e i) o))))
 
   -- the test of r0
   pub fit-part : {b : Bool} → length t ≡ tapeBytes (schemeIn sizes)

@@ -68,13 +68,13 @@ fn second_r(sizes: Sizes, tape: &[u8], out: &mut [u8])
 }
 
 // Writes unit 0's deal frame: K̃0, x̃0, z0, r0.
-fn write_first(sizes: Sizes, session: u32, tape: &[u8], out: &mut [u8])
+fn write_first(sizes: Sizes, session: u32, line: u8, tape: &[u8], out: &mut [u8])
     requires { ⌜
         (length (now tape) ≡ tapeBytes (schemeIn sizes)) × (frameBytes (schemeIn sizes) dealKind ≤ length (now out))
         ⌝ }
     ensures { λ _. ⌜
         now (out .exit) ≡
-        dealFrame (schemeIn sizes) (sharedParameters session) noFiles (now (tape .entry)) side0
+        dealFrame (schemeIn sizes) (sharedParameters session line) noFiles (now (tape .entry)) side0
         ++ drop (frameBytes (schemeIn sizes) dealKind) (now (out .entry))
         ⌝ }
 {
@@ -89,6 +89,7 @@ fn write_first(sizes: Sizes, session: u32, tape: &[u8], out: &mut [u8])
         Parameters {
             side: 0,
             session: session,
+            line: line,
         },
     );
     put(&head, out, 0);
@@ -99,14 +100,14 @@ fn write_first(sizes: Sizes, session: u32, tape: &[u8], out: &mut [u8])
 }
 
 // Writes unit 1's deal frame: K̃1, x̃1, z1, r1.
-fn write_second(sizes: Sizes, session: u32, tape: &[u8], out: &mut [u8])
+fn write_second(sizes: Sizes, session: u32, line: u8, tape: &[u8], out: &mut [u8])
     requires { ⌜
         Fits sizes × (length (now tape) ≡ tapeBytes (schemeIn sizes))
         × (frameBytes (schemeIn sizes) dealKind ≤ length (now out))
         ⌝ }
     ensures { λ _. ⌜
         now (out .exit) ≡
-        dealFrame (schemeIn sizes) (sharedParameters session) noFiles (now (tape .entry)) side1
+        dealFrame (schemeIn sizes) (sharedParameters session line) noFiles (now (tape .entry)) side1
         ++ drop (frameBytes (schemeIn sizes) dealKind) (now (out .entry))
         ⌝ }
 {
@@ -121,6 +122,7 @@ fn write_second(sizes: Sizes, session: u32, tape: &[u8], out: &mut [u8])
         Parameters {
             side: 1,
             session: session,
+            line: line,
         },
     );
     put(&head, out, 0);
@@ -131,17 +133,17 @@ fn write_second(sizes: Sizes, session: u32, tape: &[u8], out: &mut [u8])
 }
 
 // Writes both deal frames, unit 0's first.
-pub fn write_deal(sizes: Sizes, session: u32, tape: &[u8], out: &mut [u8])
+pub fn write_deal(sizes: Sizes, session: u32, line: u8, tape: &[u8], out: &mut [u8])
     requires { ⌜
         Fits sizes × (length (now tape) ≡ tapeBytes (schemeIn sizes)) × (dealtBytes (schemeIn sizes) ≤ length (now out))
         ⌝ }
     ensures { λ _. ⌜
-        now (out .exit) ≡ output 0 (dealt (schemeIn sizes) (sharedParameters session) noFiles (now (tape .entry))) (now (out .entry))
+        now (out .exit) ≡ output 0 (dealt (schemeIn sizes) (sharedParameters session line) noFiles (now (tape .entry))) (now (out .entry))
         ⌝ }
 {
     let key_bytes = sizes.key_bytes;
     let inner_bytes = sizes.inner_bytes;
     let second = HEADER_BYTES + 2 * key_bytes + 3 * inner_bytes;
-    write_first(sizes, session, tape, out);
-    write_second(sizes, session, tape, &mut out[second..]);
+    write_first(sizes, session, line, tape, out);
+    write_second(sizes, session, line, tape, &mut out[second..]);
 }

@@ -7,8 +7,8 @@ use Rattle.pair_model.specs.Header.{Header, fields, refusal}
 
 -- the parameters of a frame, and of a unit
 abbrev pub parametersIn : Struct → Parameters
-parametersIn p = parameters (p .side) (p .session)
+parametersIn p = parameters (p .side) (p .session) (p .line)
 
 abbrev pub headerOf : Enum → Header
-headerOf (Fields kind side session body) = fields kind side session body
+headerOf (Fields kind side session line body) = fields kind side session line body
 headerOf (Refused number) = refusal number

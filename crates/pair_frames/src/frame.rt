@@ -3,8 +3,9 @@ ghost use mathlib.Core.Path.{_≡_};
 ghost use mathlib.Core.List.{_++_};
 ghost use Prim.Native.Nat.{_+_, _≤_};
 ghost use lib.ListN.{length, drop};
-ghost use Rattle.pair_model.specs.Frame.{parameters, header, headerBytes, frame, sideOf, sessionOf, codeBytes, frameBytes};
-ghost use Rattle.pair_model.specs.Header.{readHeader, headerNumber};
+ghost use Rattle.numbers.specs.Number.{first};
+ghost use Rattle.pair_model.specs.Frame.{header, headerBytes, frame, sessionOf, lineOf, carriedParameters, codeBytes, frameBytes};
+ghost use Rattle.pair_model.specs.Header.{readHeader, headerNumber, lineConditions};
 ghost use Rattle.pair_frames.specs.Headers.{parametersIn, headerOf};
 ghost use Rattle.pair_frames.specs.Schemes.{schemeIn, Fits};
 use crate::header::Header;
@@ -16,6 +17,7 @@ use linear_words::copies::put;
 use numbers::table::DONE;
 use numbers::table::FRAME_LENGTH;
 use numbers::table::NO_KIND;
+use numbers::table::OTHER_LINE;
 
 // The kinds of frames.
 pub const DEAL: u8 = 1;
@@ -56,14 +58,23 @@ pub fn session_of(f: &[u8]) -> u32
     (wide(f[2]) + 256 * wide(f[3]) + 65536 * wide(f[4]) + 16777216 * wide(f[5])) as u32
 }
 
+// The line in a header.
+pub fn line_of(f: &[u8]) -> u8
+    requires { ⌜ headerBytes ≤ length (now f) ⌝ }
+    ensures { λ r. ⌜ r ≡ lineOf (now (f .entry)) ⌝ }
+{
+    f[6]
+}
+
 // The parameters in a header.
 pub fn parameters_of(f: &[u8]) -> Parameters
     requires { ⌜ headerBytes ≤ length (now f) ⌝ }
-    ensures { λ r. ⌜ parametersIn r ≡ parameters (sideOf (now (f .entry))) (sessionOf (now (f .entry))) ⌝ }
+    ensures { λ r. ⌜ parametersIn r ≡ carriedParameters (now (f .entry)) ⌝ }
 {
     Parameters {
         side: f[1],
         session: session_of(f),
+        line: line_of(f),
     }
 }
 
@@ -89,6 +100,7 @@ pub fn read_header(sizes: Sizes, f: &[u8], lowest: u8, highest: u8) -> Header
         kind: kind,
         side: f[1],
         session: session_of(f),
+        line: line_of(f),
         body: f.len() - HEADER_BYTES,
     }
 }
@@ -102,10 +114,19 @@ pub fn header_number(h: Header) -> u32
             kind: _,
             side: _,
             session: _,
+            line: _,
             body: _,
         } => DONE,
         Header::Refused(n) => n,
     }
+}
+
+// The number of a frame's line, where it must be `line`.
+pub fn line_number(line: u8, f: &[u8]) -> u32
+    requires { ⌜ headerBytes ≤ length (now f) ⌝ }
+    ensures { λ r. ⌜ r ≡ first (lineConditions line (now (f .entry))) ⌝ }
+{
+    if line_of(f) == line { DONE } else { OTHER_LINE }
 }
 
 // The bytes of a header.
@@ -120,6 +141,7 @@ pub fn header_bytes(kind: u8, parameters: Parameters) -> [u8; HEADER_BYTES]
         (session / 256 % 256) as u8,
         (session / 65536 % 256) as u8,
         (session / 16777216 % 256) as u8,
+        parameters.line,
     ]
 }
 

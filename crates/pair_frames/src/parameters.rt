@@ -2,4 +2,5 @@
 pub struct Parameters {
     pub side: u8,
     pub session: u32,
+    pub line: u8,
 }

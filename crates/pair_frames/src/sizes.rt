@@ -52,8 +52,8 @@ pub const STRING_ROOM: usize = BITS_3 / 8;
 
 pub const TRITS_ROOM: usize = 2 * STRING_ROOM;
 
-// A header: kind, side, session.
-pub const HEADER_BYTES: usize = 6;
+// A header: kind, side, session, line.
+pub const HEADER_BYTES: usize = 7;
 
 // A state in a slice: a header with the stage for its kind, the set, and the rooms of the halves, the deal and the own mask, each by its place.
 pub const SET_AT: usize = HEADER_BYTES;

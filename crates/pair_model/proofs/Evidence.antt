@@ -14,5 +14,6 @@ pub mod Wrong
 pub mod WrongMask
 pub mod Examples
 pub mod SetExamples
+pub mod LineExamples
 pub mod Sample
 pub mod Whole

@@ -18,8 +18,9 @@ use Rattle.pair_model.specs.Theorem.{SameForFixed, Hides, Done, shareFra
 use Rattle.pair_model.specs.Lowest.{LowestNumbers}
 use Rattle.pair_model.specs.Examples.{TwelveExamples}
 use Rattle.pair_model.specs.SetExamples.{SetExamples}
+use Rattle.pair_model.specs.LineExamples.{LineExamples}
 use Rattle.pair_model.specs.Sample.{SampleCompared}
-use Rattle.pair_model.specs.Leaky.{small, stepBy, bareKey, withoutZ, innerMaskDealt, unevenMaskDealt, otherKeyShown, emptyMask, halfForMask, copiedMask, refusesAll, secondDeal, tellingNumber, clearingRefusal, takesAt, refusedBeginning}
+use Rattle.pair_model.specs.Leaky.{small, stepBy, bareKey, tellingLine, lostLine, withoutZ, innerMaskDealt, unevenMaskDealt, otherKeyShown, emptyMask, halfForMask, copiedMask, refusesAll, secondDeal, tellingNumber, clearingRefusal, takesAt, refusedBeginning}
 
 -- every entry shared
 abbrev pub shared : List Entry → List SharedEntry
@@ -49,9 +50,10 @@ pub record Laws (S : Scheme) : Type 0 where
   pub share : (fixed : Side) (a b : Inputs) → WellFormed S a → WellFormed S b → SameForFixed fixed a b → HidesShare (protocol S) fixed a b
 
 pub record Evidence : Type 0 where
-  -- the definitions say what document 01 says, and what W-202 says of the sets
+  -- the definitions say what document 01 says, and what W-202 says of the sets and W-203 of the lines
   pub examples : TwelveExamples
   pub sets : SetExamples
+  pub lines : LineExamples
   -- each call returns the lowest number, which the first of a list need not be
   pub lowest : LowestNumbers
   pub falling : ¬ Lowest (9 when true ∷ 8 when true ∷ []) (first (9 when true ∷ 8 when true ∷ []))
@@ -67,6 +69,8 @@ pub record Evidence : Type 0 where
   pub passes : Demand3 (protocol small)
   pub ownStep : stepBy small (takeDeal small) (takeOpen small) ≡ step small
   pub bareKey : ¬ Demand3 (bareKey small)
+  pub tellingLine : ¬ Demand3 (tellingLine small)
+  pub lostLine : ¬ Demand3 (lostLine small)
   pub withoutZ : ¬ Demand3 (withoutZ small)
   pub innerMaskDealt : ¬ Demand3 (innerMaskDealt small)
   pub unevenMaskDealt : ¬ Demand3 (unevenMaskDealt small)

@@ -7,7 +7,7 @@ use Rattle.linear_model.specs.Bits.{bit, addBits}
 use Rattle.pair_model.specs.Scheme.{Files, Scheme, productWith, side0, side1, other, field, concat}
 use Rattle.pair_model.specs.Base.{circulantScheme}
 use Rattle.pair_model.specs.Tape.{K̃, x̃, w̃, z0, r0, dealLayout}
-use Rattle.pair_model.specs.Frame.{dealKind, openKind, maskKind, frame, kindOf, bodyOf, openLayout}
+use Rattle.pair_model.specs.Frame.{parameters, dealKind, openKind, maskKind, frame, kindOf, bodyOf, openLayout}
 use Rattle.pair_model.specs.Unit.{State, state, Stepped, refused, nothing, K̂, x̂, withDeal, withMask, addIfSide0, stepNumber, takeDeal, takeOpen, takeMask, step}
 use Rattle.pair_model.specs.Dealer.{dealFrame}
 use Rattle.pair_model.specs.Run.{Protocol, protocol}
@@ -34,18 +34,31 @@ module _ (S : Scheme) where
       (cond (eqb (u .stage) dealKind) (onDeal u (bodyOf f)) (cond (eqb (u .stage) openKind) (onOpen u (bodyOf f) lent) (takeMask S u (bodyOf f) lent)))
       (refused number u)
 
-  -- ---- the key half sent bare
+  -- ---- the protocol with other open frames
 
-  unfoldable pub takeDealBare : State → List ℕ → Stepped
-  takeDealBare u body =
-      record {
-        result = 0;
-        written = frame openKind (u .parameters) (concat (u .secrets .key ∷ addBits (S .keyBytes) (u .secrets .label) (field (dealLayout S) 1 body) ∷ []));
-        next = withDeal S u body;
-      }
+  abbrev pub withOpenFrame : (State → List ℕ → List ℕ) → Protocol
+  withOpenFrame other = withStep (stepBy (λ u body. record { result = 0; written = other u body; next = withDeal S u body }) (takeOpen S))
+
+  -- the key half sent bare
+  unfoldable pub bareOpen : State → List ℕ → List ℕ
+  bareOpen u body =
+      frame openKind (u .parameters) (concat (u .secrets .key ∷ addBits (S .keyBytes) (u .secrets .label) (field (dealLayout S) 1 body) ∷ []))
 
   abbrev pub bareKey : Protocol
-  bareKey = withStep (stepBy takeDealBare (takeOpen S))
+  bareKey = withOpenFrame bareOpen
+
+  -- the unit's own body in a frame of another line
+  unfoldable pub openOfLine : (State → ℕ) → State → List ℕ → List ℕ
+  openOfLine line u body =
+      frame openKind (parameters (u .parameters .side) (u .parameters .shared .session) (line u)) (bodyOf (takeDeal S u body .written))
+
+  -- one that tells a bit of the key half
+  abbrev pub tellingLine : Protocol
+  tellingLine = withOpenFrame (openOfLine (λ u. u .parameters .shared .line + bit (u .secrets .key) 0))
+
+  -- line 0 whatever the unit's is
+  abbrev pub lostLine : Protocol
+  lostLine = withOpenFrame (openOfLine (λ u. 0))
 
   -- ---- a mask frame without z
 

@@ -17,6 +17,7 @@ pub mod WholeRun
 pub mod Lowest
 pub mod Examples
 pub mod SetExamples
+pub mod LineExamples
 pub mod Sample
 pub mod Leaky
 pub mod Evidence

@@ -19,13 +19,13 @@ abbrev pub ofSides : List ℕ → List ℕ → Side → List ℕ
 ofSides x y side0 = x
 ofSides x y side1 = y
 
--- first key half 01 then zeros, first label half 05 then zeros, all other halves zero, session 1; matrix row i has trit 1 in column i alone
+-- first key half 01 then zeros, first label half 05 then zeros, all other halves zero, session 1, line 0; matrix row i has trit 1 in column i alone
 abbrev pub sampleInputs : Inputs
 sampleInputs =
     record {
       key = ofSides (1 ∷ zeros 31) (zeros 32);
       label = ofSides (5 ∷ zeros 31) (zeros 32);
-      shared = sharedParameters 1;
+      shared = sharedParameters 1 0;
       files = files sampleFile;
     }
 
@@ -35,7 +35,7 @@ changed i =
     record {
       key = update i (2 ∷ zeros 31) (sampleInputs .key);
       label = update i (9 ∷ zeros 31) (sampleInputs .label);
-      shared = sharedParameters 1;
+      shared = sharedParameters 1 0;
       files = files sampleFile;
     }
 

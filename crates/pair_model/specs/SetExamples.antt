@@ -38,16 +38,16 @@ pub record SetExamples : Type 0 where
   pub matrix1 : matrix 1 ≡ 5184 ∷ 6144 ∷ 12 ∷ []
   pub matrix2 : matrix 2 ≡ 336 ∷ 512 ∷ 1 ∷ []
   pub matrix3 : matrix 3 ≡ 20736 ∷ 27648 ∷ 54 ∷ []
-  pub frames1 : frames 1 ≡ 166 ∷ 70 ∷ 38 ∷ 28 ∷ 332 ∷ 70 ∷ []
-  pub frames2 : frames 2 ≡ 46 ∷ 22 ∷ 14 ∷ 12 ∷ 92 ∷ 22 ∷ []
-  pub frames3 : frames 3 ≡ 326 ∷ 134 ∷ 70 ∷ 48 ∷ 652 ∷ 134 ∷ []
+  pub frames1 : frames 1 ≡ 167 ∷ 71 ∷ 39 ∷ 29 ∷ 334 ∷ 71 ∷ []
+  pub frames2 : frames 2 ≡ 47 ∷ 23 ∷ 15 ∷ 13 ∷ 94 ∷ 23 ∷ []
+  pub frames3 : frames 3 ≡ 327 ∷ 135 ∷ 71 ∷ 49 ∷ 654 ∷ 135 ∷ []
   pub pairs1 : pairs 1 ≡ 768 ∷ 256 ∷ []
   pub pairs2 : pairs 2 ≡ 192 ∷ 64 ∷ []
   pub pairs3 : pairs 3 ≡ 1536 ∷ 512 ∷ []
   -- the heads of set 2's one block and of set 3's first and last
   pub heads : (head (layoutOf 2) 0 ≡ 0x42 ∷ 0 ∷ 0x15 ∷ 2 ∷ []) × (head (layoutOf 3) 0 ≡ 0x42 ∷ 0 ∷ 3 ∷ 3 ∷ []) × (head (layoutOf 3) 53 ≡ 0x42 ∷ 0x35 ∷ 3 ∷ 3 ∷ [])
-  pub state : stateBytes ≡ 519
+  pub state : stateBytes ≡ 520
   -- a file of set 1's length, named as sets 0, 2, 3 and 4
   pub named : (checkNumber 0 (zeros fileBytes) ≡ 14) × (checkNumber 2 (zeros fileBytes) ≡ 1) × (checkNumber 3 (zeros fileBytes) ≡ 1) × (checkNumber 4 (zeros fileBytes) ≡ 14)
   -- a beginning with side 7 and empty halves: 14 in set 4, and 1 in set 1
-  pub begins : (unitBegin 4 (parameters 7 0) [] [] .result ≡ 14) × (unitBegin 1 (parameters 7 0) [] [] .result ≡ 1)
+  pub begins : (unitBegin 4 (parameters 7 0 0) [] [] .result ≡ 14) × (unitBegin 1 (parameters 7 0 0) [] [] .result ≡ 1)

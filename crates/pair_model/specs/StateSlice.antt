@@ -9,7 +9,7 @@ use Rattle.numbers.specs.Number.{Condition, _when_, first}
 use Rattle.numbers.specs.Sets.{counted, numberIn}
 use Rattle.pair_model.specs.Scheme.{Files, Scheme, layoutBytes, field, concat}
 use Rattle.pair_model.specs.Base.{schemeOf}
-use Rattle.pair_model.specs.Frame.{Parameters, parameters, FitsHeader, header, headerBytes, kindOf, sideOf, sessionOf}
+use Rattle.pair_model.specs.Frame.{Parameters, FitsHeader, header, headerBytes, kindOf, carriedParameters}
 use Rattle.pair_model.specs.Unit.{Secrets, State, state, Stepped, begun, idle, beginConditions, stepConditions, step}
 
 -- ---- the bytes of a state
@@ -60,7 +60,7 @@ module _ (S : Scheme) where
   -- any bytes as a state of this scheme: of each room the string in its front
   unfoldable pub decodeAs : List ℕ → State
   decodeAs s =
-      state (S .set) (parameters (sideOf s) (sessionOf s)) (kindOf s)
+      state (S .set) (carriedParameters s) (kindOf s)
       (record {
         key = inFront s 0 (S .keyBytes);
         label = inFront s 1 (S .keyBytes);

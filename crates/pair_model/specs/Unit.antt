@@ -11,7 +11,7 @@ use Rattle.numbers.specs.Sets.{numberIn}
 use Rattle.pair_model.specs.Scheme.{Files, Reading, readsNothing, badLength, faultsIn, Scheme, productWith, field, concat}
 use Rattle.pair_model.specs.Tape.{dealLayout}
 use Rattle.pair_model.specs.Frame.{Parameters, parameters, dealKind, openKind, maskKind, shareKind, frame, kindOf, bodyOf, openLayout, frameBytes}
-use Rattle.pair_model.specs.Header.{readHeader, refusedWith, kindRead, sideRead, sessionRead}
+use Rattle.pair_model.specs.Header.{readHeader, refusedWith, kindRead, sideRead, sessionRead, lineConditions}
 use Rattle.pair_model.specs.Evaluator.{codeOf}
 use Rattle.pair_model.specs.Base.{schemeOf, base}
 
@@ -87,9 +87,9 @@ module _ (S : Scheme) where
   abbrev pub done : ℕ → Parameters → State
   done set t = state set t doneStage nothing
 
--- idle, of set 1 whatever the unit was
+-- idle, of set 1 and line 0 whatever the unit was
 abbrev pub idle : State
-idle = state 1 (parameters 0 0) idleStage (nothing base)
+idle = state 1 (parameters 0 0 0) idleStage (nothing base)
 
 module _ (S : Scheme) where
   -- ---- the beginning
@@ -159,7 +159,7 @@ module _ (S : Scheme) where
 
   unfoldable pub stepConditions : Parameters → ℕ → List ℕ → Files → ℕ → List Condition
   stepConditions t stage f lent outputLength =
-      lengthConditions f lent outputLength ++ headerConditions t stage f ++ contentConditions f lent
+      lengthConditions f lent outputLength ++ headerConditions t stage f ++ contentConditions f lent ++ lineConditions (t .shared .line) f
 
   abbrev pub stepNumber : Parameters → ℕ → List ℕ → Files → ℕ → ℕ
   stepNumber t stage f lent outputLength = first (stepConditions t stage f lent outputLength)

@@ -9,8 +9,12 @@ use Rattle.matrix_model.specs.File.{rowsOf, badCheckOf, badLayoutOf, badTritOf,
 use Rattle.pair_model.specs.Scheme.{files, Scheme, Side, side0, side1, total, layoutBytes, field}
 use Rattle.pair_model.specs.Base.{base}
 use Rattle.pair_model.specs.Tape.{tapeBytes, unfitTape}
-use Rattle.pair_model.specs.Frame.{codeBytes}
+use Rattle.pair_model.specs.Frame.{SharedParameters, sharedParameters, codeBytes}
 use Rattle.pair_model.specs.Evaluator.{code}
+
+-- what the program's units share: session 1, line 0
+abbrev pub programShared : SharedParameters
+programShared = sharedParameters 1 0
 
 module _ (S : Scheme) where
   -- two key halves, two label halves, tape, matrix file

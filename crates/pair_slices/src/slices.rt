@@ -5,7 +5,7 @@ ghost use lib.ListN.{length};
 ghost use Rattle.numbers.specs.Number.{atFront};
 ghost use Rattle.pair_frames.specs.Schemes.{schemeIn, Fits};
 ghost use Rattle.pair_model.specs.Scheme.{files, noFiles};
-ghost use Rattle.pair_model.specs.Frame.{parameters, dealKind, openKind, maskKind, shareKind, kindOf, sideOf, sessionOf, frameBytes, bodyOf};
+ghost use Rattle.pair_model.specs.Frame.{dealKind, openKind, maskKind, shareKind, kindOf, frameBytes, bodyOf, carriedParameters};
 ghost use Rattle.pair_model.specs.Unit.{takeDeal, takeOpen, takeMask, advance, stepNumber};
 ghost use Rattle.pair_model.specs.StateSlice.{stateBytes, encodeState, decodeAs};
 use linear_words::copies::put;
@@ -150,7 +150,7 @@ fn mask_in_place(sizes: Sizes, state: &mut [u8], f: &[u8], file: &[u8], out: &mu
 pub fn advance_slice(sizes: Sizes, state: &mut [u8], f: &[u8], file: &[u8], out: &mut [u8]) -> usize
     requires { ⌜
         Fits sizes × (length (now state) ≡ stateBytes)
-        × (stepNumber (schemeIn sizes) (parameters (sideOf (now state)) (sessionOf (now state))) (kindOf (now state)) (now f) (files (now file)) (length (now out)) ≡ 0)
+        × (stepNumber (schemeIn sizes) (carriedParameters (now state)) (kindOf (now state)) (now f) (files (now file)) (length (now out)) ≡ 0)
         ⌝ }
     ensures count { λ r. ⌜
         r ≡ length (advance (schemeIn sizes) (decodeAs (schemeIn sizes) (now (state .entry))) (bodyOf (now (f .entry))) (files (now (file .entry))) .written)

@@ -44,6 +44,7 @@ fn make_idle(s: &mut [u8])
     let nobody = Parameters {
         side: 0,
         session: 0,
+        line: 0,
     };
     clear(1, nobody, IDLE, s);
 }
@@ -69,14 +70,15 @@ fn begin_sized(
     sizes: Sizes,
     side: u32,
     session: u32,
+    line: u8,
     key: &[u8],
     label: &[u8],
     state: &mut [u8],
 ) -> u32
     requires { ⌜ Fits sizes × (length (now state) ≡ stateBytes) ⌝ }
-    ensures result { λ r. ⌜ r ≡ begin (schemeIn sizes) (parameters side session) (now (key .entry)) (now (label .entry)) .result ⌝ }
+    ensures result { λ r. ⌜ r ≡ begin (schemeIn sizes) (parameters side session line) (now (key .entry)) (now (label .entry)) .result ⌝ }
     ensures state { λ _. ⌜
-        now (state .exit) ≡ encodeState (begin (schemeIn sizes) (parameters side session) (now (key .entry)) (now (label .entry)) .next)
+        now (state .exit) ≡ encodeState (begin (schemeIn sizes) (parameters side session line) (now (key .entry)) (now (label .entry)) .next)
         ⌝ }
 {
     let number = begin_number(sizes, side, key, label);
@@ -87,6 +89,7 @@ fn begin_sized(
     let parameters = Parameters {
         side: (side % 256) as u8,
         session: session,
+        line: line,
     };
     begin_in_place(sizes, parameters, key, label, state);
     DONE
@@ -97,18 +100,19 @@ pub fn begin_slice(
     set: u32,
     side: u32,
     session: u32,
+    line: u8,
     key: &[u8],
     label: &[u8],
     state: &mut [u8],
 ) -> u32
     requires { ⌜ length (now state) ≡ stateBytes ⌝ }
-    ensures result { λ r. ⌜ r ≡ unitBegin set (parameters side session) (now (key .entry)) (now (label .entry)) .result ⌝ }
+    ensures result { λ r. ⌜ r ≡ unitBegin set (parameters side session line) (now (key .entry)) (now (label .entry)) .result ⌝ }
     ensures state { λ _. ⌜
-        now (state .exit) ≡ encodeState (unitBegin set (parameters side session) (now (key .entry)) (now (label .entry)) .next)
+        now (state .exit) ≡ encodeState (unitBegin set (parameters side session line) (now (key .entry)) (now (label .entry)) .next)
         ⌝ }
 {
     if is_set(set) {
-        return begin_sized(sizes_of(set), side, session, key, label, state);
+        return begin_sized(sizes_of(set), side, session, line, key, label, state);
     }
     make_idle(state);
     NO_SET

@@ -34,7 +34,7 @@ abbrev pub unitOf : State → UnitState
 unitOf s =
     record {
       set = s .set;
-      parameters = record { side = s .parameters .side; session = s .parameters .shared .session };
+      parameters = record { side = s .parameters .side; session = s .parameters .shared .session; line = s .parameters .shared .line };
       stage = s .stage;
       key = inRoom stringRoom (s .secrets .key);
       label = inRoom stringRoom (s .secrets .label);

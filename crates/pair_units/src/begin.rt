@@ -66,13 +66,14 @@ pub fn cleared(sizes: Sizes, parameters: Parameters, stage: u8) -> UnitState
     with_halves(sizes, parameters, stage, half, half)
 }
 
-// The idle state, of set 1 whatever set was named.
+// The idle state, of set 1 and line 0 whatever was named.
 fn idle() -> UnitState
     ensures { λ u. ⌜ u ≡ unitOf idle ⌝ }
 {
     let nobody = Parameters {
         side: 0,
         session: 0,
+        line: 0,
     };
     cleared(SET_1, nobody, IDLE)
 }
@@ -83,11 +84,18 @@ pub struct Begun {
     pub next: UnitState,
 }
 
-// A unit of this side and session with these halves, or the idle state.
-pub fn begin_unit(sizes: Sizes, side: u32, session: u32, key: &[u8], label: &[u8]) -> Begun
+// A unit of this side, session and line with these halves, or the idle state.
+pub fn begin_unit(
+    sizes: Sizes,
+    side: u32,
+    session: u32,
+    line: u8,
+    key: &[u8],
+    label: &[u8],
+) -> Begun
     requires { ⌜ Fits sizes ⌝ }
-    ensures result { λ b. ⌜ b .result ≡ begin (schemeIn sizes) (parameters side session) (now (key .entry)) (now (label .entry)) .result ⌝ }
-    ensures next { λ b. ⌜ b .next ≡ unitOf (begin (schemeIn sizes) (parameters side session) (now (key .entry)) (now (label .entry)) .next) ⌝ }
+    ensures result { λ b. ⌜ b .result ≡ begin (schemeIn sizes) (parameters side session line) (now (key .entry)) (now (label .entry)) .result ⌝ }
+    ensures next { λ b. ⌜ b .next ≡ unitOf (begin (schemeIn sizes) (parameters side session line) (now (key .entry)) (now (label .entry)) .next) ⌝ }
 {
     let number = begin_number(sizes, side, key, label);
     if number != DONE {
@@ -99,6 +107,7 @@ pub fn begin_unit(sizes: Sizes, side: u32, session: u32, key: &[u8], label: &[u8
     let parameters = Parameters {
         side: (side % 256) as u8,
         session: session,
+        line: line,
     };
     Begun {
         result: DONE,
@@ -107,15 +116,15 @@ pub fn begin_unit(sizes: Sizes, side: u32, session: u32, key: &[u8], label: &[u8
 }
 
 // The same of a set. Beginnings of runs are accepted, and the state that is given stands in the view that `Privacy` speaks of.
-pub fn begin(set: u32, side: u32, session: u32, key: &[u8], label: &[u8]) -> Begun
-    ensures result { λ b. ⌜ b .result ≡ unitBegin set (parameters side session) (now (key .entry)) (now (label .entry)) .result ⌝ }
-    ensures next { λ b. ⌜ b .next ≡ unitOf (unitBegin set (parameters side session) (now (key .entry)) (now (label .entry)) .next) ⌝ }
+pub fn begin(set: u32, side: u32, session: u32, line: u8, key: &[u8], label: &[u8]) -> Begun
+    ensures result { λ b. ⌜ b .result ≡ unitBegin set (parameters side session line) (now (key .entry)) (now (label .entry)) .result ⌝ }
+    ensures next { λ b. ⌜ b .next ≡ unitOf (unitBegin set (parameters side session line) (now (key .entry)) (now (label .entry)) .next) ⌝ }
     ensures begins { λ _. ⌜ InEachSet (λ S. Begins (protocol S)) ⌝ }
     ensures privacy { λ _. ⌜ InEachSet (λ S. Privacy (protocol S)) ⌝ }
 {
     if is_set(set) {
         let sizes = sizes_of(set);
-        return begin_unit(sizes, side, session, key, label);
+        return begin_unit(sizes, side, session, line, key, label);
     }
     Begun {
         result: NO_SET,

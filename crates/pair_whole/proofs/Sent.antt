@@ -32,11 +32,11 @@ begin-read t key label = pick (beginNumber base t key label) refl
 
 -- the first step of a unit with the same halves, deal frame and file
 module _ (side : ℕ) {k₀ k₁ l₀ l₁ f₀ f₁ x₀ x₁ : List ℕ} (k : k₀ ≡ k₁) (l : l₀ ≡ l₁) (f : f₀ ≡ f₁) (x : x₀ ≡ x₁) where
-  pub start-accepted : stepNumber base (begin base (parameters side 1) k₁ l₁ .next .parameters) (begin base (parameters side 1) k₁ l₁ .next .stage) f₁ (files x₁) (leastOutput base) ≡ 0
-      → stepNumber base (begin base (parameters side 1) k₀ l₀ .next .parameters) (begin base (parameters side 1) k₀ l₀ .next .stage) f₀ (files x₀) (leastOutput base) ≡ 0
+  pub start-accepted : stepNumber base (begin base (parameters side 1 0) k₁ l₁ .next .parameters) (begin base (parameters side 1 0) k₁ l₁ .next .stage) f₁ (files x₁) (leastOutput base) ≡ 0
+      → stepNumber base (begin base (parameters side 1 0) k₀ l₀ .next .parameters) (begin base (parameters side 1 0) k₀ l₀ .next .stage) f₀ (files x₀) (leastOutput base) ≡ 0
   start-accepted e =
-      (λ i. stepNumber base (begin base (parameters side 1) (k i) (l i) .next .parameters) (begin base (parameters side 1) (k i) (l i) .next .stage) (f i) (files (x i)) (leastOutput base)) ∙ e
+      (λ i. stepNumber base (begin base (parameters side 1 0) (k i) (l i) .next .parameters) (begin base (parameters side 1 0) (k i) (l i) .next .stage) (f i) (files (x i)) (leastOutput base)) ∙ e
 
-  pub start-sent : {g : List ℕ} {v : State} → Sends (step base (begin base (parameters side 1) k₀ l₀ .next) f₀ (files x₀) (leastOutput base)) g v
-      → Sends (step base (begin base (parameters side 1) k₁ l₁ .next) f₁ (files x₁) (leastOutput base)) g v
-  start-sent {g} {v} = subst (λ (s : Stepped). Sends s g v) (λ i. step base (begin base (parameters side 1) (k i) (l i) .next) (f i) (files (x i)) (leastOutput base))
+  pub start-sent : {g : List ℕ} {v : State} → Sends (step base (begin base (parameters side 1 0) k₀ l₀ .next) f₀ (files x₀) (leastOutput base)) g v
+      → Sends (step base (begin base (parameters side 1 0) k₁ l₁ .next) f₁ (files x₁) (leastOutput base)) g v
+  start-sent {g} {v} = subst (λ (s : Stepped). Sends s g v) (λ i. step base (begin base (parameters side 1 0) (k i) (l i) .next) (f i) (files (x i)) (leastOutput base))

@@ -1,14 +1,14 @@
-// What the program does as one call: the dealer and both units in session 1, frame by frame, and the counter's sum. What must be
-// accepted is not judged again: the file is checked once, and no branch depends on the shares.
+// What the program does as one call: the dealer and both units in session 1 and line 0, frame by frame, and the counter's sum.
+// What must be accepted is not judged again: the file is checked once, and no branch depends on the shares.
 ghost use mathlib.Core.Path.{_≡_};
 ghost use lib.ListN.{length, take};
 ghost use Rattle.numbers.specs.Number.{output};
 ghost use Rattle.pair_model.specs.Scheme.{files, noFiles, side0, side1};
 ghost use Rattle.pair_model.specs.Base.{base};
 ghost use Rattle.pair_model.specs.Dealer.{dealFrame};
-ghost use Rattle.pair_model.specs.Frame.{sharedParameters, parameters, maskKind, frameBytes, codeBytes, bodyOf};
+ghost use Rattle.pair_model.specs.Frame.{parameters, maskKind, frameBytes, codeBytes, bodyOf};
 ghost use Rattle.pair_model.specs.Unit.{begin, leastOutput, stepNumber, step, takeMask};
-ghost use Rattle.pair_model.specs.WholeRun.{inputKey, inputLabel, inputTape, inputFile, runNumber, runCode};
+ghost use Rattle.pair_model.specs.WholeRun.{programShared, inputKey, inputLabel, inputTape, inputFile, runNumber, runCode};
 ghost use Rattle.pair_model.specs.Internal.Exchange.{Sends, RunFits};
 ghost use Rattle.pair_frames.specs.Headers.{parametersIn};
 ghost use Rattle.pair_frames.specs.Schemes.{setSizes};
@@ -101,15 +101,15 @@ fn exchange(b: Round, file: &[u8]) -> Round
 // The beginning of unit `side` and its step at the deal.
 fn start(side: u32, key: &[u8], label: &[u8], f: &[u8], file: &[u8]) -> Sent
     requires { ⌜
-        stepNumber base (begin base (parameters side 1) (now key) (now label) .next .parameters) (begin base (parameters side 1) (now key) (now label) .next .stage)
+        stepNumber base (begin base (parameters side 1 0) (now key) (now label) .next .parameters) (begin base (parameters side 1 0) (now key) (now label) .next .stage)
         (now f) (files (now file)) (leastOutput base) ≡ 0
         ⌝ }
     ensures { λ r. ⌜
-        Sends (step base (begin base (parameters side 1) (now (key .entry)) (now (label .entry)) .next) (now (f .entry)) (files (now (file .entry))) (leastOutput base))
+        Sends (step base (begin base (parameters side 1 0) (now (key .entry)) (now (label .entry)) .next) (now (f .entry)) (files (now (file .entry))) (leastOutput base))
         (r .frame) (stateAt (setSizes 1) (r .next))
         ⌝ }
 {
-    let b = begin_unit(SET_1, side, 1, key, label);
+    let b = begin_unit(SET_1, side, 1, 0, key, label);
     let u = b.next;
     send(u, f, file)
 }
@@ -119,19 +119,19 @@ fn first_round(input: &[u8]) -> Round
     requires { ⌜ RunFits (now input) (codeBytes base) ⌝ }
     ensures first { λ r. ⌜
         Sends
-        (step base (begin base (parameters 0 1) (inputKey base (now (input .entry)) side0) (inputLabel base (now (input .entry)) side0) .next)
-        (dealFrame base (sharedParameters 1) noFiles (inputTape base (now (input .entry))) side0) (files (inputFile base (now (input .entry)))) (leastOutput base))
+        (step base (begin base (parameters 0 1 0) (inputKey base (now (input .entry)) side0) (inputLabel base (now (input .entry)) side0) .next)
+        (dealFrame base programShared noFiles (inputTape base (now (input .entry))) side0) (files (inputFile base (now (input .entry)))) (leastOutput base))
         (r .frame0) (stateAt (setSizes 1) (r .next0))
         ⌝ }
     ensures second { λ r. ⌜
         Sends
-        (step base (begin base (parameters 1 1) (inputKey base (now (input .entry)) side1) (inputLabel base (now (input .entry)) side1) .next)
-        (dealFrame base (sharedParameters 1) noFiles (inputTape base (now (input .entry))) side1) (files (inputFile base (now (input .entry)))) (leastOutput base))
+        (step base (begin base (parameters 1 1 0) (inputKey base (now (input .entry)) side1) (inputLabel base (now (input .entry)) side1) .next)
+        (dealFrame base programShared noFiles (inputTape base (now (input .entry))) side1) (files (inputFile base (now (input .entry)))) (leastOutput base))
         (r .frame1) (stateAt (setSizes 1) (r .next1))
         ⌝ }
 {
     let mut dealt = [0u8; DEALT_BYTES];
-    deal(1, 1, &input[INPUT_TAPE..INPUT_FILE], &mut dealt);
+    deal(1, 1, 0, &input[INPUT_TAPE..INPUT_FILE], &mut dealt);
     let file = &input[INPUT_FILE..INPUT_BYTES];
     let first = start(
         0,
@@ -177,7 +177,7 @@ fn run_units(input: &[u8], out: &mut [u8])
     add_shares(SET_1, &share0, &share1, out);
 }
 
-// The lowest number over all of the input, or 0 and the code, by running the dealer and both units in session 1.
+// The lowest number over all of the input, or 0 and the code, by running the dealer and both units in session 1 and line 0.
 pub fn run(input: &[u8], out: &mut [u8]) -> u32
     ensures result { λ r. ⌜ r ≡ runNumber (now (input .entry)) (length (now (out .entry))) ⌝ }
     ensures output { λ r. ⌜ now (out .exit) ≡ output r (runCode base (now (input .entry))) (now (out .entry)) ⌝ }

@@ -93,13 +93,13 @@ pub extern "C" fn pair_sample(
 
 // Both deal frames of a tape.
 #[no_mangle]
-pub extern "C" fn pair_deal(set: u32, session: u32, tape: &[u8], out: &mut [u8]) -> u32
+pub extern "C" fn pair_deal(set: u32, session: u32, line: u8, tape: &[u8], out: &mut [u8]) -> u32
     ensures result { λ r. ⌜ r ≡ numberIn set (dealConditions (schemeOf set) noFiles (now (tape .entry)) (length (now (out .entry)))) ⌝ }
-    ensures output { λ r. ⌜ now (out .exit) ≡ output r (dealt (schemeOf set) (sharedParameters session) noFiles (now (tape .entry))) (now (out .entry)) ⌝ }
+    ensures output { λ r. ⌜ now (out .exit) ≡ output r (dealt (schemeOf set) (sharedParameters session line) noFiles (now (tape .entry))) (now (out .entry)) ⌝ }
     ensures accepted_tapes { λ _. ⌜ InEachSet TakesAccepted ⌝ }
     ensures privacy { λ _. ⌜ InEachSet (λ S. Privacy (protocol S)) ⌝ }
 {
-    deal(set, session, tape, out)
+    deal(set, session, line, tape, out)
 }
 
 // Both deal frames from source bytes, drawn from a starting pair on, and the next unread pair.
@@ -107,6 +107,7 @@ pub extern "C" fn pair_deal(set: u32, session: u32, tape: &[u8], out: &mut [u8])
 pub extern "C" fn pair_deal_source(
     set: u32,
     session: u32,
+    line: u8,
     start: u64,
     source: &[u8],
     out: &mut [u8],
@@ -116,12 +117,12 @@ pub extern "C" fn pair_deal_source(
     ensures next { λ r. ⌜ now (next .exit) ≡ reported r (nextPair (schemeOf set) (now (source .entry)) start) ⌝ }
     ensures output { λ r. ⌜
         now (out .exit) ≡
-        output r (dealt (schemeOf set) (sharedParameters session) noFiles (sampled (schemeOf set) (now (source .entry)) start)) (now (out .entry))
+        output r (dealt (schemeOf set) (sharedParameters session line) noFiles (sampled (schemeOf set) (now (source .entry)) start)) (now (out .entry))
         ⌝ }
     ensures disjoint { λ _. ⌜ DisjointDraws ⌝ }
     ensures privacy { λ _. ⌜ InEachSet (λ S. Privacy (protocol S)) ⌝ }
 {
-    let d = deal_source(set, session, start, source, out);
+    let d = deal_source(set, session, line, start, source, out);
     *next = d.next;
     d.result
 }
@@ -135,7 +136,7 @@ pub extern "C" fn pair_join(set: u32, first: &[u8], second: &[u8], out: &mut [u8
     join(set, first, second, out)
 }
 
-// The lowest number over all of the input, or 0 and the code, by running the dealer and both units of set 1 in session 1.
+// The lowest number over all of the input, or 0 and the code, by running the dealer and both units of set 1 in session 1 and line 0.
 #[no_mangle]
 pub extern "C" fn pair_run(input: &[u8], out: &mut [u8]) -> u32
     ensures result { λ r. ⌜ r ≡ runNumber (now (input .entry)) (length (now (out .entry))) ⌝ }

@@ -31,14 +31,15 @@ pub extern "C" fn pair_begin(
     set: u32,
     side: u32,
     session: u32,
+    line: u8,
     key: &[u8],
     label: &[u8],
     state: &mut [u8],
 ) -> u32
-    ensures result { λ r. ⌜ r ≡ pairBeginNumber set (parameters side session) (now (key .entry)) (now (label .entry)) (now (state .entry)) ⌝ }
-    ensures state { λ _. ⌜ now (state .exit) ≡ pairBeginState set (parameters side session) (now (key .entry)) (now (label .entry)) (now (state .entry)) ⌝ }
+    ensures result { λ r. ⌜ r ≡ pairBeginNumber set (parameters side session line) (now (key .entry)) (now (label .entry)) (now (state .entry)) ⌝ }
+    ensures state { λ _. ⌜ now (state .exit) ≡ pairBeginState set (parameters side session line) (now (key .entry)) (now (label .entry)) (now (state .entry)) ⌝ }
     ensures accepted { λ r. ⌜
-        (r ≡ 0 → now (state .exit) ≡ encodeState (begun (schemeOf set) (parameters side session) (now (key .entry)) (now (label .entry))))
+        (r ≡ 0 → now (state .exit) ≡ encodeState (begun (schemeOf set) (parameters side session line) (now (key .entry)) (now (label .entry))))
         ⌝ }
     ensures refused { λ r. ⌜ (r ≢ 0 → length (now (state .entry)) ≡ stateBytes → now (state .exit) ≡ encodeState idle) ⌝ }
     ensures wrong_length { λ r. ⌜
@@ -46,7 +47,7 @@ pub extern "C" fn pair_begin(
         ⌝ }
     ensures next { λ _. ⌜
         (length (now (state .entry)) ≡ stateBytes
-        → decodeState (now (state .exit)) ≡ unitBegin set (parameters side session) (now (key .entry)) (now (label .entry)) .next)
+        → decodeState (now (state .exit)) ≡ unitBegin set (parameters side session line) (now (key .entry)) (now (label .entry)) .next)
         ⌝ }
     ensures states_fit { λ _. ⌜ StatesFit ⌝ }
     ensures same_protocol { λ _. ⌜ CallsAreRuns ⌝ }
@@ -54,7 +55,7 @@ pub extern "C" fn pair_begin(
     ensures privacy { λ _. ⌜ InEachSet (λ S. Privacy (protocol S)) ⌝ }
 {
     if state.len() == STATE_BYTES {
-        return begin_slice(set, side, session, key, label, state);
+        return begin_slice(set, side, session, line, key, label, state);
     }
     if is_set(set) { WRONG_LENGTH } else { NO_SET }
 }

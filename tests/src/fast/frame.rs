@@ -1,22 +1,22 @@
 //! Frames: kinds, lengths and the header, read and written where they stand.
 
 use super::{part, part_mut, shape};
-use crate::reference::frame::{DEAL, MASK, OPEN};
+use crate::reference::frame::{Shared, DEAL, MASK, OPEN};
 use crate::reference::numbers::{FRAME_LENGTH, NO_KIND};
 
-pub(super) const HEADER: usize = 6;
+pub(super) const HEADER: usize = 7;
 
-/// The session in a frame or a state of at least six bytes.
+/// The session and the line in a frame or a state that has a header.
 #[inline(always)]
-pub(super) fn session(bytes: &[u8]) -> u32 {
-    u32::from_le_bytes(*part(bytes, 2))
+pub(super) fn shared(bytes: &[u8]) -> Shared {
+    Shared { session: u32::from_le_bytes(*part(bytes, 2)), line: bytes[6] }
 }
 
 /// Writes a header to the beginning of a frame or a state.
 #[inline(always)]
-pub(super) fn write_header(kind: u8, side: u8, session: u32, out: &mut [u8]) {
-    let [a, b, c, d] = session.to_le_bytes();
-    *part_mut(out, 0) = [kind, side, a, b, c, d];
+pub(super) fn write_header(kind: u8, side: u8, shared: Shared, out: &mut [u8]) {
+    let [a, b, c, d] = shared.session.to_le_bytes();
+    *part_mut(out, 0) = [kind, side, a, b, c, d, shared.line];
 }
 
 /// The length of a frame of this kind, 1 to 4.

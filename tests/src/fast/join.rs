@@ -1,9 +1,11 @@
 //! The counter's join.
 
 use super::codes;
-use super::frame::{form_number, session, HEADER};
+use super::frame::{form_number, shared, HEADER};
 use crate::reference::frame::SHARE;
-use crate::reference::numbers::{OTHER_SESSION, OTHER_SIDE, UNFIT_TRIT, UNUSED_BIT, WRONG_LENGTH};
+use crate::reference::numbers::{
+    OTHER_LINE, OTHER_SESSION, OTHER_SIDE, UNFIT_TRIT, UNUSED_BIT, WRONG_LENGTH,
+};
 
 /// The lower of two numbers, where 0 is none.
 #[inline(always)]
@@ -36,7 +38,7 @@ fn join_of<const W: usize, const D: usize, const P: usize>(
     if number != 0 {
         return number;
     }
-    if session(share0) != session(share1) {
+    if shared(share0).session != shared(share1).session {
         return OTHER_SESSION;
     }
     if share0[1] != 0 || share1[1] != 1 {
@@ -48,6 +50,9 @@ fn join_of<const W: usize, const D: usize, const P: usize>(
     }
     if codes::spare_bits::<D>(a) | codes::spare_bits::<D>(b) != 0 {
         return UNUSED_BIT;
+    }
+    if shared(share0).line != shared(share1).line {
+        return OTHER_LINE;
     }
     codes::add::<D>(a, b, out);
     0

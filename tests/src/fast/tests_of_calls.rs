@@ -5,7 +5,7 @@ use super::{dealer, evaluator, join, matrix, run, sampler, unit};
 use crate::guarded::{compare, compare_counted};
 use crate::random::{report, seed, Random};
 use crate::reference;
-use crate::reference::frame::{frame_of, length_of_kind, DEAL, HEADER_BYTES, SHARE};
+use crate::reference::frame::{frame_of, length_of_kind, Shared, DEAL, HEADER_BYTES, SHARE};
 use crate::reference::numbers::{Answer, DONE, NO_SET};
 use crate::reference::shape::{with_set, Shape, SETS, SET_1};
 use crate::samples::{
@@ -101,13 +101,13 @@ fn the_fast_dealer_gives_the_reference() {
     let mut random = Random::for_test("fast dealer");
     let count = 400;
     for shape in (0..count).flat_map(|_| SETS) {
-        let (set, session) = (any_set(&mut random, shape), random.session());
+        let (set, shared) = (any_set(&mut random, shape), random.shared());
         let tape = any_tape(&mut random, shape);
         let tape = any_length(&mut random, tape);
         let room = nearly(&mut random, shape.dealt_bytes());
-        let expected = with_set(set, |shape| reference::dealer::deal(shape, session, &tape, room));
+        let expected = with_set(set, |shape| reference::dealer::deal(shape, shared, &tape, room));
         compare(&mut random, "deal", [&tape], room, &expected, |[tape], out| {
-            dealer::deal(set, session, tape, out)
+            dealer::deal(set, shared, tape, out)
         });
     }
     report("fast: dealer", SETS.len() * count);
@@ -148,11 +148,11 @@ fn the_fast_sampler_gives_the_reference() {
             sampler::sample(set, start, source, out, next)
         });
 
-        let (session, room) = (random.session(), nearly(&mut random, shape.dealt_bytes()));
-        let deal = |shape| reference::dealer::deal_source(shape, session, start, &source, room);
+        let (shared, room) = (random.shared(), nearly(&mut random, shape.dealt_bytes()));
+        let deal = |shape| reference::dealer::deal_source(shape, shared, start, &source, room);
         let (name, expected) = ("deal source", with_set(set, deal));
         compare_counted(&mut random, name, inputs, room, &expected, |[source], out, next| {
-            dealer::deal_source(set, session, start, source, out, next)
+            dealer::deal_source(set, shared, start, source, out, next)
         });
     }
     assert!(accepted.iter().all(|n| *n > count / 50), "accepted {accepted:?} at the residues");
@@ -167,8 +167,8 @@ fn the_fast_beginning_gives_the_reference() {
         let set = any_set(&mut random, shape);
         let [key, label] = [0, 1].map(|_| any_string(&mut random, shape));
         let side = random.choose(&[0, 1, 0, 1, 2, 256, u32::MAX]);
-        let (session, room) = (random.session(), nearly(&mut random, STATE_BYTES));
-        let expected = match reference::unit::begin_with_set(set, side, session, &key, &label) {
+        let (shared, room) = (random.shared(), nearly(&mut random, STATE_BYTES));
+        let expected = match reference::unit::begin_with_set(set, side, shared, &key, &label) {
             (number, state) if room == STATE_BYTES => {
                 Answer { number, bytes: encode(&state), count: 0 }
             }
@@ -176,7 +176,7 @@ fn the_fast_beginning_gives_the_reference() {
             _ => Answer::refused(1),
         };
         compare(&mut random, "begin", [&key, &label], room, &expected, |[key, label], state| {
-            unit::begin(set, side, session, key, label, state)
+            unit::begin(set, side, shared, key, label, state)
         });
     }
     report("fast: beginning", SETS.len() * count);
@@ -198,7 +198,7 @@ fn state_and_frame(random: &mut Random, shape: Shape) -> (Vec<u8>, Vec<u8>) {
     let kind = state.waits_for().unwrap_or(1 + random.below(3) as u8);
     let side = if kind == DEAL { state.side } else { 1 - state.side };
     let length = length_of_kind(shape, kind).expect("a kind") - HEADER_BYTES;
-    let mut frame = frame_of(kind, side, state.session, &random.contents(length));
+    let mut frame = frame_of(kind, side, state.shared, &random.contents(length));
     if kind == DEAL {
         let r = fit_vector(random, shape);
         frame[shape.r_in_deal()..].copy_from_slice(&r);
@@ -247,12 +247,12 @@ fn the_fast_step_gives_the_reference() {
     // Each kind of frame was often accepted.
     assert!(done[2..].iter().all(|times| *times > count / 20), "{done:?}, SEED={}", seed());
     let mut short = random.bytes(STATE_BYTES - 1);
-    assert_eq!(unit::step(&mut short, &[], &[], &mut [0; 70], &mut 0), 1);
+    assert_eq!(unit::step(&mut short, &[], &[], &mut [0; 200], &mut 0), 1);
     report("fast: steps", SETS.len() * count);
 }
 
 /// A share frame, often fit.
-fn share_frame(random: &mut Random, shape: Shape, side: u8, session: u32) -> Vec<u8> {
+fn share_frame(random: &mut Random, shape: Shape, side: u8, shared: Shared) -> Vec<u8> {
     let (plane, digits) = (shape.code_plane(), shape.digits);
     let mut code = random.contents(2 * plane);
     if !random.once_in(6) {
@@ -271,7 +271,7 @@ fn share_frame(random: &mut Random, shape: Shape, side: u8, session: u32) -> Vec
         let (byte, bit) = (place / 8, 1 << (place % 8));
         (code[byte], code[plane + byte]) = (code[byte] | bit, code[plane + byte] | bit);
     }
-    let mut frame = frame_of(SHARE, side, session, &code);
+    let mut frame = frame_of(SHARE, side, shared, &code);
     if random.once_in(8) {
         let place = random.below(HEADER_BYTES);
         change(random, &mut frame, place);
@@ -284,8 +284,8 @@ fn the_fast_join_gives_the_reference() {
     let mut random = Random::for_test("fast join");
     let count = 2_000;
     for shape in (0..count).flat_map(|_| SETS) {
-        let (set, session) = (any_set(&mut random, shape), random.session());
-        let [a, b] = [0, 1].map(|side| share_frame(&mut random, shape, side, session));
+        let (set, shared) = (any_set(&mut random, shape), random.shared());
+        let [a, b] = [0, 1].map(|side| share_frame(&mut random, shape, side, shared));
         let room = nearly(&mut random, shape.code_bytes());
         let expected = with_set(set, |shape| reference::join::join(shape, &a, &b, room));
         compare(&mut random, "join", [&a, &b], room, &expected, |[a, b], out| {

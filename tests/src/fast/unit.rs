@@ -1,12 +1,13 @@
 //! The unit: its beginning and its steps, on the bytes of its state.
 
-use super::frame::{expected_side, form_number, reads_file, session, write_header, HEADER};
+use super::frame::{expected_side, form_number, reads_file, shared, write_header, HEADER};
 use super::matrix::trit_rows;
 use super::trits::{share, Vector};
 use super::{bits, part_mut, shape, words, write_words};
-use crate::reference::frame::{DEAL, MASK, OPEN, SHARE};
+use crate::reference::frame::{Shared, DEAL, MASK, OPEN, SHARE};
 use crate::reference::numbers::{
-    NOT_WAITED_FOR, NO_SET, NO_SIDE, OTHER_SESSION, OTHER_SIDE, UNFIT_TRIT, WRONG_LENGTH,
+    NOT_WAITED_FOR, NO_SET, NO_SIDE, OTHER_LINE, OTHER_SESSION, OTHER_SIDE, UNFIT_TRIT,
+    WRONG_LENGTH,
 };
 use crate::reference::shape::Shape;
 use crate::state_layout::{SET_AT, STATE_BYTES};
@@ -15,7 +16,7 @@ type State = [u8; STATE_BYTES];
 
 /// Where the halves, the deal and its parts, and the own mask stand in a state, and
 /// the room of a string.
-const KEY: usize = 7;
+const KEY: usize = 8;
 const ROOM: usize = 64;
 const LABEL: usize = KEY + ROOM;
 const KEY_MASK: usize = LABEL + ROOM;
@@ -34,11 +35,18 @@ const IDLE: State = {
 
 /// Begins a unit; a refusal leaves it idle.
 #[inline(never)]
-pub fn begin(set: u32, side: u32, session: u32, key: &[u8], label: &[u8], state: &mut [u8]) -> u32 {
+pub fn begin(
+    set: u32,
+    side: u32,
+    shared: Shared,
+    key: &[u8],
+    label: &[u8],
+    state: &mut [u8],
+) -> u32 {
     let Ok(state) = <&mut State>::try_from(state) else {
         return Shape::named(set).map_or(NO_SET, |_| WRONG_LENGTH);
     };
-    let number = with_set!(set, begin_of(side, session, key, label, state));
+    let number = with_set!(set, begin_of(side, shared, key, label, state));
     if number != 0 {
         *state = IDLE;
     }
@@ -49,7 +57,7 @@ pub fn begin(set: u32, side: u32, session: u32, key: &[u8], label: &[u8], state:
 #[inline(always)]
 fn begin_of<const W: usize, const D: usize, const P: usize>(
     side: u32,
-    session: u32,
+    shared: Shared,
     key: &[u8],
     label: &[u8],
     state: &mut State,
@@ -61,7 +69,7 @@ fn begin_of<const W: usize, const D: usize, const P: usize>(
         return NO_SIDE;
     }
     *state = [0; STATE_BYTES];
-    write_header(DEAL, side as u8, session, state);
+    write_header(DEAL, side as u8, shared, state);
     state[SET_AT] = shape(W).set as u8;
     write_words::<W>(words(key, 0), state, KEY);
     write_words::<W>(words(label, 0), state, LABEL);
@@ -75,7 +83,7 @@ fn frame_number<const W: usize>(state: &State, frame: &[u8]) -> u32 {
     if number != 0 {
         return number;
     }
-    if session(frame) != session(state) {
+    if shared(frame).session != shared(state).session {
         return OTHER_SESSION;
     }
     if frame[1] != expected_side(frame[0], state[1]) {
@@ -150,9 +158,12 @@ fn take_deal<const W: usize>(state: &mut State, frame: &[u8], out: &mut [u8]) ->
     if !r.fits() {
         return UNFIT_TRIT;
     }
+    if shared(frame).line != shared(state).line {
+        return OTHER_LINE;
+    }
     let dealt = |i: usize| words::<W>(frame, HEADER + 8 * W * i);
     let masks = [dealt(0), dealt(1)];
-    write_header(OPEN, state[1], session(state), out);
+    write_header(OPEN, state[1], shared(state), out);
     write_words(bits::xor(words(state, KEY), masks[0]), out, HEADER);
     write_words(bits::xor(words(state, LABEL), masks[1]), out, HEADER + 8 * W);
     write_words(masks[0], state, KEY_MASK);
@@ -181,6 +192,9 @@ pub(super) fn own_mask<const W: usize>(
 /// It takes the other's open frame, and writes its mask frame.
 #[inline(always)]
 fn take_open<const W: usize>(state: &mut State, frame: &[u8], out: &mut [u8]) -> u32 {
+    if shared(frame).line != shared(state).line {
+        return OTHER_LINE;
+    }
     let frame = &frame[..shape(W).open_bytes()];
     let out = &mut out[..shape(W).mask_bytes()];
     let held = |at| words::<W>(state, at);
@@ -188,7 +202,7 @@ fn take_open<const W: usize>(state: &mut State, frame: &[u8], out: &mut [u8]) ->
     let summed = |half, mask, at| bits::xor(bits::xor(held(half), mask), words(frame, at));
     let both = [summed(KEY, key_mask, HEADER), summed(LABEL, label_mask, HEADER + 8 * W)];
     let mask = own_mask(state[1], both, [key_mask, label_mask, held(Z)]);
-    write_header(MASK, state[1], session(state), out);
+    write_header(MASK, state[1], shared(state), out);
     write_words(mask, out, HEADER);
     write_words(mask, state, OWN_MASK);
     go_on::<W>(state, MASK);
@@ -209,7 +223,10 @@ fn take_mask<const W: usize, const P: usize>(
     if number != 0 {
         return number;
     }
-    write_header(SHARE, state[1], session(state), out);
+    if shared(frame).line != shared(state).line {
+        return OTHER_LINE;
+    }
+    write_header(SHARE, state[1], shared(state), out);
     digits.write(&mut out[HEADER..]);
     *part_mut(state, KEY) = [0; STATE_BYTES - KEY];
     (state[0], state[SET_AT]) = (DONE_STAGE, shape(W).set as u8);

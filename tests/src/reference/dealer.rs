@@ -2,7 +2,7 @@
 //! document 02.
 
 use super::bits::{add, multiply, part};
-use super::frame::{frame_of, DEAL};
+use super::frame::{frame_of, Shared, DEAL};
 use super::numbers::{Answer, SHORT_SOURCE, UNFIT_TRIT, WRONG_LENGTH};
 use super::shape::Shape;
 use super::trits::{pack_trits, subtract_trits, trits_fit};
@@ -116,32 +116,32 @@ pub fn tape_fits(shape: Shape, tape: &[u8]) -> bool {
 }
 
 /// "writes unit 0's deal frame, then unit 1's"
-fn deal_frames(shape: Shape, session: u32, tape: &[u8]) -> Vec<u8> {
+fn deal_frames(shape: Shape, shared: Shared, tape: &[u8]) -> Vec<u8> {
     let [deal0, deal1] = Tape::read(shape, tape).deals();
-    let frame0 = frame_of(DEAL, 0, session, &deal0.bytes());
-    let frame1 = frame_of(DEAL, 1, session, &deal1.bytes());
+    let frame0 = frame_of(DEAL, 0, shared, &deal0.bytes());
+    let frame1 = frame_of(DEAL, 1, shared, &deal1.bytes());
     [frame0, frame1].concat()
 }
 
-/// "The dealer takes a session and a tape".
-pub fn deal(shape: Shape, session: u32, tape: &[u8], room: usize) -> Answer {
+/// "The dealer takes a session and a tape", and "a line".
+pub fn deal(shape: Shape, shared: Shared, tape: &[u8], room: usize) -> Answer {
     let right = tape.len() == shape.tape_bytes();
     let conditions = [
         (WRONG_LENGTH, !right || room < shape.dealt_bytes()),
         (UNFIT_TRIT, right && !tape_fits(shape, tape)),
     ];
-    Answer::unless(&conditions, || deal_frames(shape, session, tape))
+    Answer::unless(&conditions, || deal_frames(shape, shared, tape))
 }
 
 /// "The dealer's form over source bytes follows": the tape is "what the sampler
 /// makes of them", from this start on, and it "reports the next unread pair".
-pub fn deal_source(shape: Shape, session: u32, start: u64, source: &[u8], room: usize) -> Answer {
+pub fn deal_source(shape: Shape, shared: Shared, start: u64, source: &[u8], room: usize) -> Answer {
     if room < shape.dealt_bytes() {
         return Answer::refused(WRONG_LENGTH);
     }
     let sampled = sample(shape, start, source, shape.tape_bytes());
     match sampled.number {
-        0 => Answer { count: sampled.count, ..deal(shape, session, &sampled.bytes, room) },
+        0 => Answer { count: sampled.count, ..deal(shape, shared, &sampled.bytes, room) },
         number => Answer::refused(number),
     }
 }

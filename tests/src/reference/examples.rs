@@ -4,15 +4,17 @@
 use super::bits::{bit, multiply, pack};
 use super::dealer::{self, tape_accepted, uncounted};
 use super::evaluator::evaluate;
+use super::frame::{frame_of, Shared, SHARE};
+use super::join::join;
 use super::matrix::{
     block_of, block_sums, check_differs, layout_differs, matrix_check, BLOCK_BYTES, CHECK_AT,
     SET_AT,
 };
 use super::numbers::{lowest, Answer, BLOCK_CHECK, BLOCK_LAYOUT, NO_SET, SHORT_SOURCE};
-use super::program::{digits, program, Inputs};
+use super::program::{digits, program, Inputs, SHARED};
 use super::shape::{with_set, Shape, SETS, SET_1, SET_2, SET_3};
 use super::trits::{add_trits, inner_share, pack_trits, trit};
-use super::unit::{begin_with_set, State};
+use super::unit::{begin_with_set, step, step_number, Stage, State};
 use crate::random::Random;
 use crate::samples::{diagonal_file, seal};
 
@@ -172,7 +174,7 @@ fn example_12_a_block_of_zeros() {
 }
 
 /// The table of document 02's sets: "All lengths and 13's counts follow from n
-/// and t".
+/// and t", and "each frame and the step's least output grow by one" with the line.
 #[test]
 fn lengths_of_the_three_sets() {
     let lengths = |shape: Shape| {
@@ -197,9 +199,9 @@ fn lengths_of_the_three_sets() {
         ]
     };
     let table = [
-        [32, 64, 22, 256, 192, 5_184, 6_144, 12, 166, 70, 38, 28, 70, 332, 768, 256, 4],
-        [8, 16, 6, 64, 48, 336, 512, 1, 46, 22, 14, 12, 22, 92, 192, 64, 21],
-        [64, 128, 42, 512, 384, 20_736, 27_648, 54, 326, 134, 70, 48, 134, 652, 1_536, 512, 3],
+        [32, 64, 22, 256, 192, 5_184, 6_144, 12, 167, 71, 39, 29, 71, 334, 768, 256, 4],
+        [8, 16, 6, 64, 48, 336, 512, 1, 47, 23, 15, 13, 23, 94, 192, 64, 21],
+        [64, 128, 42, 512, 384, 20_736, 27_648, 54, 327, 135, 71, 49, 135, 654, 1_536, 512, 3],
     ];
     assert_eq!(SETS.map(lengths), table);
 }
@@ -264,9 +266,73 @@ fn a_file_named_as_another_set() {
 
 #[test]
 fn beginnings_with_no_set() {
-    let begin = |set| begin_with_set(set, 7, 1, &[], &[]);
+    let begin = |set| begin_with_set(set, 7, SHARED, &[], &[]);
     assert_eq!([begin(4), begin(1)], [(NO_SET, State::idle()), (1, State::idle())]);
     assert_eq!(State::idle().shape, SET_1);
+}
+
+/// "The dealer takes a line": the headers of a tape of zeros.
+#[test]
+fn deal_frames_of_line_0_and_1() {
+    for line in [0, 1] {
+        let shared = Shared { session: 1, line };
+        let dealt = dealer::deal(SET_1, shared, &[0; 256], 334);
+        assert_eq!((dealt.number, dealt.bytes.len()), (0, 334));
+        assert_eq!(dealt.bytes[..7], [1, 0, 1, 0, 0, 0, line]);
+        assert_eq!(dealt.bytes[167..174], [1, 1, 1, 0, 0, 0, line]);
+    }
+}
+
+/// "A frame of another line than the unit's ... gives 15": the highest number, so
+/// every other fault is told first.
+#[test]
+fn a_unit_of_line_1_and_a_deal_of_line_0() {
+    let dealt = dealer::deal(SET_1, SHARED, &[0; 256], 334).bytes;
+    let (frame0, frame1) = dealt.split_at(167);
+    let storage = Shared { session: 1, line: 1 };
+    let (number, unit) = begin_with_set(1, 0, storage, &[0; 32], &[0; 32]);
+    assert_eq!((number, unit.shared.line), (0, 1));
+    let answer = |frame: &[u8], room| step_number(&unit, frame, &[], room);
+    assert_eq!([answer(frame0, 71), answer(frame0, 70)], [15, 1]);
+    let mut unfit = frame0.to_vec();
+    (unfit[103], unfit[135]) = (1, 1);
+    assert_eq!(answer(&unfit, 71), 10);
+    assert_eq!([frame1, &frame0[..6], &frame0[..7]].map(|frame| answer(frame, 71)), [6, 3, 4]);
+    let own = dealer::deal(SET_1, storage, &[0; 256], 334).bytes;
+    assert_eq!(answer(&own[..167], 71), 0);
+}
+
+/// "two share frames of differing lines"
+#[test]
+fn share_frames_of_lines_0_and_1() {
+    let zeros = [0; 22];
+    let share = |side, line, code: &[u8]| frame_of(SHARE, side, Shared { session: 1, line }, code);
+    let mut spare = zeros;
+    spare[10] = 0x80;
+    let first = share(0, 0, &zeros);
+    let joined = |second: &[u8]| join(SET_1, &first, second, 22).number;
+    assert_eq!(joined(&share(1, 1, &zeros)), 15);
+    assert_eq!(joined(&share(1, 1, &spare)), 11);
+    assert_eq!(joined(&share(1, 0, &zeros)), 0);
+}
+
+/// Units "keep it in their state, done and idle included (idle: 0)".
+#[test]
+fn lines_of_idle_and_done_units() {
+    let named = Shared { session: 1, line: 9 };
+    assert_eq!(begin_with_set(1, 2, named, &[0; 32], &[0; 32]), (2, State::idle()));
+    assert_eq!(State::idle().shared.line, 0);
+    let dealt = dealer::deal(SET_2, named, &[0; 64], 94).bytes;
+    let mut frames = [&dealt[..47], &dealt[47..]].map(<[u8]>::to_vec);
+    let mut units = [0, 1].map(|side| begin_with_set(2, side, named, &[1; 8], &[2; 8]).1);
+    for _ in 0..3 {
+        let [step0, step1] =
+            [0, 1].map(|side| step(&units[side], &frames[side], &diagonal_file(SET_2), 23));
+        (units, frames) = ([step0.next, step1.next], [step1.written, step0.written]);
+    }
+    for unit in units {
+        assert_eq!((unit.stage, unit.shared), (Stage::Done, named));
+    }
 }
 
 #[test]

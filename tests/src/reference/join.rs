@@ -3,7 +3,7 @@
 
 use super::frame::{read_frame, SHARE};
 use super::numbers::{
-    Answer, Condition, OTHER_SESSION, OTHER_SIDE, UNFIT_TRIT, UNUSED_BIT, WRONG_LENGTH,
+    Answer, Condition, OTHER_LINE, OTHER_SESSION, OTHER_SIDE, UNFIT_TRIT, UNUSED_BIT, WRONG_LENGTH,
 };
 use super::shape::Shape;
 use super::trits::{add_trits, spare_bits_clear, trits_fit};
@@ -24,9 +24,11 @@ pub fn join(shape: Shape, share0: &[u8], share1: &[u8], room: usize) -> Answer {
         conditions.extend(refusals.map(|number| (number, true)));
         return Answer::unless(&conditions, Vec::new);
     };
-    conditions.push((OTHER_SESSION, frame0.session != frame1.session));
+    let [shared0, shared1] = [frame0.shared, frame1.shared];
+    conditions.push((OTHER_SESSION, shared0.session != shared1.session));
     conditions.push((OTHER_SIDE, frame0.side != 0 || frame1.side != 1));
     conditions.extend(body_conditions(shape, &frame0.body));
     conditions.extend(body_conditions(shape, &frame1.body));
+    conditions.push((OTHER_LINE, shared0.line != shared1.line));
     Answer::unless(&conditions, || add_trits(&frame0.body, &frame1.body, shape.code_plane()))
 }

@@ -3,10 +3,11 @@
 use super::bits::{bit, part};
 use super::dealer::{bytes_of, deal, deal_source, pairs_of, sample, tape_accepted};
 use super::evaluator::{code, evaluate};
+use super::frame::Shared;
 use super::join::join;
 use super::matrix::{matrix_check, matrix_read, matrix_write};
 use super::pairing::paired_tape;
-use super::program::{pair_run, program, run_units, Inputs};
+use super::program::{pair_run, program, run_units, Inputs, SHARED};
 use super::shape::{Shape, SETS, SET_1};
 use super::trits::trits_fit;
 use super::unit::{begin, step, Step};
@@ -36,7 +37,7 @@ fn a_run_gives_the_code_of_the_summed_halves() {
         let [key, label] = inputs.key_and_label();
         let evaluated = evaluate(shape, &key, &label, &inputs.file, shape.code_bytes());
         assert_eq!(evaluated.bytes, code(shape, &key, &label, &inputs.file));
-        assert_eq!(run_units(&inputs, random.session()), evaluated);
+        assert_eq!(run_units(&inputs, random.shared()), evaluated);
         if shape == SET_1 {
             assert_eq!(pair_run(&inputs.bytes(), shape.code_bytes()), evaluated);
         }
@@ -57,13 +58,13 @@ fn a_fit_matrix_survives_its_file() {
 }
 
 /// Both units' three steps in turn, as the view of either is made of.
-fn steps(inputs: &Inputs, session: u32) -> [Vec<Step>; 2] {
+fn steps(inputs: &Inputs, shared: Shared) -> [Vec<Step>; 2] {
     let shape = inputs.shape;
-    let dealt = deal(shape, session, &inputs.tape, shape.dealt_bytes()).bytes;
+    let dealt = deal(shape, shared, &inputs.tape, shape.dealt_bytes()).bytes;
     let mut frames = [0, 1].map(|side| part(&dealt, shape.deal_bytes() * side, shape.deal_bytes()));
     let mut units = [0, 1].map(|side| {
         let (key, label) = (&inputs.key_halves[side], &inputs.label_halves[side]);
-        begin(shape, side as u32, session, key, label).1
+        begin(shape, side as u32, shared, key, label).1
     });
     let mut views = [Vec::new(), Vec::new()];
     for _ in 0..3 {
@@ -91,8 +92,8 @@ fn paired_tapes_give_the_fixed_unit_one_view() {
         second.tape = paired_tape(fixed, &first, &second, &first.tape);
         assert!(tape_accepted(shape, &second.tape));
         assert_eq!(paired_tape(fixed, &second, &first, &second.tape), first.tape);
-        let session = random.session();
-        let views = [steps(&first, session), steps(&second, session)];
+        let shared = random.shared();
+        let views = [steps(&first, shared), steps(&second, shared)];
         assert_eq!(views[0][fixed], views[1][fixed]);
         // Each step was taken: a view of refusals would say nothing.
         assert!(views[0][fixed].iter().all(|step| step.number == 0));
@@ -112,11 +113,12 @@ fn dealing_from_a_source_deals_the_sampled_tape() {
     at_each_shape("deal from source", times, |random, shape| {
         let (start, source) = (random.below(shape.bits) as u64, any_source(random, shape));
         let sampled = sample(shape, start, &source, shape.tape_bytes());
-        let dealt = deal_source(shape, 5, start, &source, shape.dealt_bytes());
+        let shared = random.shared();
+        let dealt = deal_source(shape, shared, start, &source, shape.dealt_bytes());
         assert_eq!((dealt.number, dealt.count), (sampled.number, sampled.count));
         if sampled.number == 0 {
             assert!(tape_accepted(shape, &sampled.bytes));
-            assert_eq!(dealt.bytes, deal(shape, 5, &sampled.bytes, shape.dealt_bytes()).bytes);
+            assert_eq!(dealt.bytes, deal(shape, shared, &sampled.bytes, shape.dealt_bytes()).bytes);
             accepted += 1;
         }
     });
@@ -157,20 +159,20 @@ fn no_input_makes_the_reference_panic() {
         let tape = accepted_tape(random, shape);
         let length = random.below(700);
         let bytes = random.contents(length);
-        let (_, state) = begin(shape, random.below(3) as u32, 1, &bytes, &bytes);
+        let (_, state) = begin(shape, random.below(3) as u32, SHARED, &bytes, &bytes);
         step(&state, &bytes, &file, random.below(2 * shape.step_room()));
         step(&state, &bytes, &bytes, shape.step_room());
         join(shape, &bytes, &tape, shape.code_bytes());
-        deal(shape, 1, &bytes, length);
+        deal(shape, SHARED, &bytes, length);
         let start = random.word() >> random.below(64);
-        deal_source(shape, 1, start, &bytes, shape.dealt_bytes());
+        deal_source(shape, SHARED, start, &bytes, shape.dealt_bytes());
         evaluate(shape, &bytes, &tape, &bytes, shape.code_bytes());
         matrix_write(shape, &bytes, length);
         matrix_read(shape, &bytes, length);
         program(&bytes);
         trits_fit(&bytes, usize::MAX);
         let inputs = Inputs::read(shape, &bytes);
-        run_units(&inputs, 1);
+        run_units(&inputs, SHARED);
         paired_tape(random.below(3), &inputs, &inputs, &bytes);
     });
 }

@@ -6,7 +6,8 @@ pub const DONE: u32 = 0;
 pub const WRONG_LENGTH: u32 = 1;
 /// "at the beginning, side is neither 0 nor 1"
 pub const NO_SIDE: u32 = 2;
-/// "frame under 6 bytes, or its kind is not 1 to 3 (step) or 4 (join)"
+/// "frame under 6 bytes, or its kind is not 1 to 3 (step) or 4 (join)": under 7
+/// bytes with the line, "3 and 4 follow"
 pub const NO_KIND: u32 = 3;
 /// "length is not its kind's"
 pub const FRAME_LENGTH: u32 = 4;
@@ -33,6 +34,9 @@ pub const ZERO_ROW: u32 = 12;
 pub const SHORT_SOURCE: u32 = 13;
 /// "A set other than 1 to 3 named at a call gives 14"
 pub const NO_SET: u32 = 14;
+/// "A frame of another line than the unit's, or two share frames of differing
+/// lines, gives 15."
+pub const OTHER_LINE: u32 = 15;
 
 /// A number of the table and whether its condition holds. A condition that
 /// can't be judged is given as not holding.

@@ -2,6 +2,7 @@
 
 use super::bits::{add, part};
 use super::dealer::{deal, tape_fits};
+use super::frame::Shared;
 use super::join::join;
 use super::matrix::file_conditions;
 use super::numbers::{Answer, DONE, UNFIT_TRIT, WRONG_LENGTH};
@@ -11,10 +12,10 @@ use super::unit::{begin, step};
 
 /// "6,528 bytes in all"
 pub const INPUT_BYTES: usize = 6_528;
-/// "It runs both units in session 1"
-pub const SESSION: u32 = 1;
+/// "It runs both units in session 1"; "The dealer takes a line (the program's is 0)"
+pub const SHARED: Shared = Shared { session: 1, line: 0 };
 
-/// What a run is made of, besides its session and its list of steps.
+/// What a run is made of, besides its session, its line and its list of steps.
 #[derive(Clone, Debug, PartialEq, Eq)]
 pub struct Inputs {
     pub shape: Shape,
@@ -52,9 +53,9 @@ impl Inputs {
 
 /// A whole run in turn: deal, beginnings, three steps of each unit, join. Any
 /// refusal on the way is the answer.
-pub fn run_units(inputs: &Inputs, session: u32) -> Answer {
+pub fn run_units(inputs: &Inputs, shared: Shared) -> Answer {
     let shape = inputs.shape;
-    let dealt = deal(shape, session, &inputs.tape, shape.dealt_bytes());
+    let dealt = deal(shape, shared, &inputs.tape, shape.dealt_bytes());
     if dealt.number != DONE {
         return dealt;
     }
@@ -62,7 +63,7 @@ pub fn run_units(inputs: &Inputs, session: u32) -> Answer {
         [0, 1].map(|side| part(&dealt.bytes, shape.deal_bytes() * side, shape.deal_bytes()));
     let begun = |side: usize| {
         let (key, label) = (&inputs.key_halves[side], &inputs.label_halves[side]);
-        begin(shape, side as u32, session, key, label)
+        begin(shape, side as u32, shared, key, label)
     };
     let [(number0, mut unit0), (number1, mut unit1)] = [begun(0), begun(1)];
     for number in [number0, number1] {
@@ -95,7 +96,7 @@ pub fn pair_run(input: &[u8], room: usize) -> Answer {
     conditions.push((UNFIT_TRIT, !tape_fits(SET_1, &inputs.tape)));
     match Answer::unless(&conditions, Vec::new) {
         refusal if refusal.number != DONE => refusal,
-        _ => run_units(&inputs, SESSION),
+        _ => run_units(&inputs, SHARED),
     }
 }
 

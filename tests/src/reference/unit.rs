@@ -3,11 +3,11 @@
 use super::bits::{add, multiply, part};
 use super::dealer::Deal;
 use super::evaluator::code_of;
-use super::frame::{frame_of, read_frame, Frame, DEAL, MASK, OPEN, SHARE};
+use super::frame::{frame_of, read_frame, Frame, Shared, DEAL, MASK, OPEN, SHARE};
 use super::matrix::file_conditions;
 use super::numbers::{
-    lowest, Condition, DONE, NOT_WAITED_FOR, NO_SET, NO_SIDE, OTHER_SESSION, OTHER_SIDE,
-    UNFIT_TRIT, WRONG_LENGTH,
+    lowest, Condition, DONE, NOT_WAITED_FOR, NO_SET, NO_SIDE, OTHER_LINE, OTHER_SESSION,
+    OTHER_SIDE, UNFIT_TRIT, WRONG_LENGTH,
 };
 use super::shape::{Shape, SET_1};
 use super::trits::{inner_share, trits_fit};
@@ -24,12 +24,13 @@ pub enum Stage {
 
 /// "The state holds side, session, stage, the two halves, the deal and what
 /// later steps need": its own mask. What is not yet known is zero. "The state
-/// keeps its set".
+/// keeps its set", and units keep their line "in their state, done and idle
+/// included".
 #[derive(Clone, Debug, PartialEq, Eq)]
 pub struct State {
     pub shape: Shape,
     pub side: u8,
-    pub session: u32,
+    pub shared: Shared,
     pub stage: Stage,
     pub key_half: Vec<u8>,
     pub label_half: Vec<u8>,
@@ -47,11 +48,11 @@ pub struct Step {
 
 impl State {
     /// A state with "zeros for all else" than these.
-    pub fn bare(shape: Shape, side: u8, session: u32, stage: Stage) -> State {
+    pub fn bare(shape: Shape, side: u8, shared: Shared, stage: Stage) -> State {
         State {
             shape,
             side,
-            session,
+            shared,
             stage,
             key_half: vec![0; shape.string_bytes()],
             label_half: vec![0; shape.string_bytes()],
@@ -61,9 +62,9 @@ impl State {
     }
 
     /// "an idle state, side 0 and session 0 with zeros for all else but the
-    /// stage" and the set ("idle: 1"), whichever was named
+    /// stage" and the set ("idle: 1"), whichever was named; the line is 0 too
     pub fn idle() -> State {
-        State::bare(SET_1, 0, 0, Stage::Idle)
+        State::bare(SET_1, 0, Shared { session: 0, line: 0 }, Stage::Idle)
     }
 
     /// The kind waited for; "Done and idle wait for no kind".
@@ -118,12 +119,12 @@ pub fn other_side(side: u8) -> u8 {
     }
 }
 
-/// "The beginning takes side, session, key half and label half"; "A refused
-/// beginning gives an idle state".
+/// "The beginning takes side, session, key half and label half", and "units begin
+/// with" a line; "A refused beginning gives an idle state".
 pub fn begin(
     shape: Shape,
     side: u32,
-    session: u32,
+    shared: Shared,
     key_half: &[u8],
     label_half: &[u8],
 ) -> (u32, State) {
@@ -135,7 +136,7 @@ pub fn begin(
     let begun = State {
         key_half: key_half.to_vec(),
         label_half: label_half.to_vec(),
-        ..State::bare(shape, side as u8, session, Stage::WaitsForDeal)
+        ..State::bare(shape, side as u8, shared, Stage::WaitsForDeal)
     };
     (DONE, begun)
 }
@@ -144,18 +145,18 @@ pub fn begin(
 pub fn begin_with_set(
     set: u32,
     side: u32,
-    session: u32,
+    shared: Shared,
     key_half: &[u8],
     label_half: &[u8],
 ) -> (u32, State) {
     match Shape::named(set) {
-        Some(shape) => begin(shape, side, session, key_half, label_half),
+        Some(shape) => begin(shape, side, shared, key_half, label_half),
         None => (NO_SET, State::idle()),
     }
 }
 
-/// 5, 6, 7 and a deal's 10, of a frame that was read.
-fn frame_conditions(state: &State, frame: &Frame) -> [Condition; 4] {
+/// 5, 6, 7, a deal's 10 and 15, of a frame that was read.
+fn frame_conditions(state: &State, frame: &Frame) -> [Condition; 5] {
     let side = match frame.kind {
         DEAL => state.side,
         _ => other_side(state.side),
@@ -163,10 +164,11 @@ fn frame_conditions(state: &State, frame: &Frame) -> [Condition; 4] {
     let fits = || trits_fit(&Deal::read(state.shape, &frame.body).r, state.shape.bits);
     let unfit = frame.kind == DEAL && !fits();
     [
-        (OTHER_SESSION, frame.session != state.session),
+        (OTHER_SESSION, frame.shared.session != state.shared.session),
         (OTHER_SIDE, frame.side != side),
         (NOT_WAITED_FOR, state.waits_for() != Some(frame.kind)),
         (UNFIT_TRIT, unfit),
+        (OTHER_LINE, frame.shared.line != state.shared.line),
     ]
 }
 
@@ -213,9 +215,9 @@ fn accepted(state: &State, frame: &Frame, file: &[u8]) -> Step {
             (MASK, next.mask.clone())
         }
         _ => {
-            next = State::bare(state.shape, state.side, state.session, Stage::Done);
+            next = State::bare(state.shape, state.side, state.shared, Stage::Done);
             (SHARE, state.share_body(&frame.body, file))
         }
     };
-    Step { number: DONE, written: frame_of(kind, state.side, state.session, &body), next }
+    Step { number: DONE, written: frame_of(kind, state.side, state.shared, &body), next }
 }

@@ -10,6 +10,8 @@ compile_error!(
      run `rt staticlib protocol` in the repository's root to make it."
 );
 
+use service_pair_tests::reference::frame::Shared;
+
 mod linked {
     /// A lent slice that is read, as the C interface passes it.
     type In = *const u8;
@@ -45,6 +47,7 @@ mod linked {
         pub fn pair_deal(
             set: u32,
             session: u32,
+            line: u8,
             tape: In,
             n: Length,
             out: Out,
@@ -53,6 +56,7 @@ mod linked {
         pub fn pair_deal_source(
             set: u32,
             session: u32,
+            line: u8,
             start: u64,
             source: In,
             source_length: Length,
@@ -64,6 +68,7 @@ mod linked {
             set: u32,
             side: u32,
             session: u32,
+            line: u8,
             key_half: In,
             key_length: Length,
             label_half: In,
@@ -133,14 +138,15 @@ pub fn sample(set: u32, start: u64, source: &[u8], out: &mut [u8], next: &mut u6
     unsafe { linked::pair_sample(set, start, source.as_ptr(), source.len(), output, room, next) }
 }
 
-pub fn deal(set: u32, session: u32, tape: &[u8], out: &mut [u8]) -> u32 {
+pub fn deal(set: u32, shared: Shared, tape: &[u8], out: &mut [u8]) -> u32 {
+    let Shared { session, line } = shared;
     let (output, room) = (out.as_mut_ptr(), out.len());
-    unsafe { linked::pair_deal(set, session, tape.as_ptr(), tape.len(), output, room) }
+    unsafe { linked::pair_deal(set, session, line, tape.as_ptr(), tape.len(), output, room) }
 }
 
 pub fn deal_source(
     set: u32,
-    session: u32,
+    shared: Shared,
     start: u64,
     source: &[u8],
     out: &mut [u8],
@@ -149,7 +155,8 @@ pub fn deal_source(
     unsafe {
         linked::pair_deal_source(
             set,
-            session,
+            shared.session,
+            shared.line,
             start,
             source.as_ptr(),
             source.len(),
@@ -160,12 +167,20 @@ pub fn deal_source(
     }
 }
 
-pub fn begin(set: u32, side: u32, session: u32, key: &[u8], label: &[u8], state: &mut [u8]) -> u32 {
+pub fn begin(
+    set: u32,
+    side: u32,
+    shared: Shared,
+    key: &[u8],
+    label: &[u8],
+    state: &mut [u8],
+) -> u32 {
     unsafe {
         linked::pair_begin(
             set,
             side,
-            session,
+            shared.session,
+            shared.line,
             key.as_ptr(),
             key.len(),
             label.as_ptr(),

@@ -124,10 +124,10 @@ fn codes_with_diagonal_matrices() {
 
 /// Compares the dealer over one tape.
 pub fn compare_deal(random: &mut Random, set: u32, tape: &[u8], room: usize) -> u32 {
-    let session = random.session();
-    let expected = with_set(set, |shape| dealer::deal(shape, session, tape, room));
+    let shared = random.shared();
+    let expected = with_set(set, |shape| dealer::deal(shape, shared, tape, room));
     compare(random, "pair_deal", [tape], room, &expected, |[tape], out| {
-        interface::deal(set, session, tape, out)
+        interface::deal(set, shared, tape, out)
     });
     expected.number
 }
@@ -191,8 +191,8 @@ fn dealer_over_sources() {
         for _ in 0..count {
             let length = random.below(shape.bits * 5 / 3);
             let (start, source) = (random.below(shape.bits) as u64, random.contents(length));
-            let (session, room) = (random.session(), nearly(&mut random, shape.dealt_bytes()));
-            let expected = dealer::deal_source(shape, session, start, &source, room);
+            let (shared, room) = (random.shared(), nearly(&mut random, shape.dealt_bytes()));
+            let expected = dealer::deal_source(shape, shared, start, &source, room);
             done += usize::from(expected.number == DONE);
             let name = "pair_deal_source";
             compare_counted(
@@ -202,7 +202,7 @@ fn dealer_over_sources() {
                 room,
                 &expected,
                 |[source], out, next| {
-                    interface::deal_source(shape.set, session, start, source, out, next)
+                    interface::deal_source(shape.set, shared, start, source, out, next)
                 },
             );
         }
@@ -221,8 +221,8 @@ pub fn compare_begin(
     [key, label]: [&[u8]; 2],
     length: usize,
 ) -> u32 {
-    let session = random.session();
-    let (mut number, state) = unit::begin_with_set(set, side, session, key, label);
+    let shared = random.shared();
+    let (mut number, state) = unit::begin_with_set(set, side, shared, key, label);
     let mut slice = Guarded::room(random, length);
     let mut after = slice.after(&encode(&state));
     if length != STATE_BYTES {
@@ -232,7 +232,7 @@ pub fn compare_begin(
     let lent = [Guarded::lend(random, key), Guarded::lend(random, label)];
     let before = lent.clone();
     let [key, label] = lent.each_ref().map(Guarded::slice);
-    let found = interface::begin(set, side, session, key, label, slice.slice_mut());
+    let found = interface::begin(set, side, shared, key, label, slice.slice_mut());
     let context = format!("pair_begin({set}, {side}), SEED={}", seed());
     assert_eq!(found, number, "{context}");
     assert!(slice == after, "{context}: the state differs");

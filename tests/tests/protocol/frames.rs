@@ -1,7 +1,7 @@
 //! Strange things to lend to a step: frames, files and output lengths.
 
 use service_pair_tests::random::Random;
-use service_pair_tests::reference::frame::{frame_of, length_of_kind, DEAL, HEADER_BYTES};
+use service_pair_tests::reference::frame::{frame_of, length_of_kind, Shared, DEAL, HEADER_BYTES};
 use service_pair_tests::reference::shape::{Shape, SETS};
 use service_pair_tests::samples::{change, damage_file, fit_file, set_both_bits, FILE_FAULTS};
 
@@ -10,11 +10,11 @@ pub fn strange_frame(
     random: &mut Random,
     shape: Shape,
     known: &[Vec<u8>],
-    session: u32,
+    shared: Shared,
 ) -> Vec<u8> {
     let mut frame = match known.get(random.below(known.len() + 1)) {
         Some(frame) => frame.clone(),
-        None => made_up_frame(random, shape, session),
+        None => made_up_frame(random, shape, shared),
     };
     let length = frame.len();
     match random.below(10) {
@@ -50,19 +50,20 @@ fn flip(random: &mut Random, frame: &mut [u8], length: usize) {
 
 /// A header near the right ones and a random body, mostly of its kind's length, now
 /// and then of another set's.
-fn made_up_frame(random: &mut Random, shape: Shape, session: u32) -> Vec<u8> {
+fn made_up_frame(random: &mut Random, shape: Shape, shared: Shared) -> Vec<u8> {
     let (kind, side) = (random.below(6) as u8, random.below(3) as u8);
-    let session = match random.below(4) {
-        0 => random.session(),
-        1 => session ^ (1 << random.below(32)),
-        _ => session,
+    let shared = match random.below(6) {
+        0 => random.shared(),
+        1 => Shared { session: shared.session ^ (1 << random.below(32)), ..shared },
+        2 => Shared { line: shared.line ^ (1 << random.below(8)), ..shared },
+        _ => shared,
     };
     let shape = if random.once_in(6) { random.choose(&SETS) } else { shape };
     let length = match length_of_kind(shape, kind) {
         Some(length) if !random.once_in(6) => length - HEADER_BYTES,
         _ => random.below(200),
     };
-    frame_of(kind, side, session, &random.contents(length))
+    frame_of(kind, side, shared, &random.contents(length))
 }
 
 /// The run's file, or another: empty, cut, lengthened, damaged, random or of

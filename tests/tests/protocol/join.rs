@@ -3,12 +3,13 @@
 use crate::interface;
 use service_pair_tests::guarded::compare;
 use service_pair_tests::random::{report, Random};
-use service_pair_tests::reference::frame::{frame_of, HEADER_BYTES, SHARE};
+use service_pair_tests::reference::frame::{frame_of, Shared, HEADER_BYTES, SHARE};
 use service_pair_tests::reference::join;
 use service_pair_tests::reference::numbers::DONE;
 use service_pair_tests::reference::shape::{with_set, Shape, SETS, SET_3};
 use service_pair_tests::reference::trits::pack_trits;
 use service_pair_tests::samples::{change, lengths_of_sets};
+use service_pair_tests::state_layout::LINE_AT;
 
 /// Compares join on two frames and gives its number back.
 pub fn compare_join(
@@ -27,15 +28,15 @@ pub fn compare_join(
 }
 
 /// A fit share frame: t trits, unused bits zero.
-fn share(random: &mut Random, shape: Shape, side: u8, session: u32) -> Vec<u8> {
+pub fn share(random: &mut Random, shape: Shape, side: u8, shared: Shared) -> Vec<u8> {
     let trits: Vec<u8> = (0..shape.digits).map(|_| random.below(3) as u8).collect();
     let body = pack_trits(shape.code_plane(), |j| trits.get(j).copied().unwrap_or(0));
-    frame_of(SHARE, side, session, &body)
+    frame_of(SHARE, side, shared, &body)
 }
 
 pub fn two_shares(random: &mut Random, shape: Shape) -> [Vec<u8>; 2] {
-    let session = random.session();
-    [0, 1].map(|side| share(random, shape, side, session))
+    let shared = random.shared();
+    [0, 1].map(|side| share(random, shape, side, shared))
 }
 
 #[test]
@@ -103,7 +104,7 @@ fn every_flipped_bit_cut_and_output_length() {
 fn put_fault(random: &mut Random, shape: Shape, frame: &mut Vec<u8>) {
     let (length, digits) = (frame.len(), shape.digits);
     let spare = digits + random.below(8 * shape.code_plane() - digits);
-    match random.below(8) {
+    match random.below(9) {
         0 => frame.truncate(random.below(length)),
         1 => frame.resize(length + 1 + random.below(9), 0),
         2 => change(random, frame, 0),
@@ -114,6 +115,7 @@ fn put_fault(random: &mut Random, shape: Shape, frame: &mut Vec<u8>) {
         }
         5 => set_bits(frame, shape, random.below(digits), [true, true]),
         6 => set_bits(frame, shape, spare, [true, true]),
+        7 => change(random, frame, LINE_AT),
         _ => {
             let planes = random.choose(&[[true, false], [false, true]]);
             set_bits(frame, shape, spare, planes);
@@ -136,7 +138,7 @@ fn the_lowest_of_several_faults_is_told() {
     let mut random = Random::for_test("faults of shares");
     let count = 5_000;
     for shape in SETS {
-        let (least, mut seen) = (shape.code_bytes(), [0; 14]);
+        let (least, mut seen) = (shape.code_bytes(), [0; 16]);
         for _ in 0..count {
             let mut shares = two_shares(&mut random, shape);
             for _ in 0..random.below(4) {
@@ -147,7 +149,7 @@ fn the_lowest_of_several_faults_is_told() {
             let number = compare_join(&mut random, shape.set, &shares[0], &shares[1], room);
             seen[number as usize] += 1;
         }
-        for number in [0, 1, 3, 4, 5, 6, 10, 11] {
+        for number in [0, 1, 3, 4, 5, 6, 10, 11, 15] {
             assert!(seen[number] > 0, "no shares of set {} gave {number}", shape.set);
         }
     }

@@ -6,6 +6,7 @@ mod frames;
 #[path = "../interface/mod.rs"]
 mod interface;
 mod join;
+mod lines;
 mod runs;
 mod sampler;
 mod sets;

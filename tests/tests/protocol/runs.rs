@@ -6,7 +6,7 @@ use crate::unit::{Lent, Run};
 use service_pair_tests::random::{report, seed, Random};
 use service_pair_tests::reference::evaluator::code;
 use service_pair_tests::reference::frame::{HEADER_BYTES, MASK};
-use service_pair_tests::reference::program::Inputs;
+use service_pair_tests::reference::program::{Inputs, SHARED};
 use service_pair_tests::reference::shape::{Shape, SETS};
 use service_pair_tests::reference::unit::{Stage, State};
 use service_pair_tests::samples::{fit_inputs, lengths_of_sets};
@@ -19,13 +19,13 @@ fn own_code(inputs: &Inputs) -> Vec<u8> {
 }
 
 /// Joins the shares of a run in which only sent frames were accepted.
-fn join_shares(run: &Run) {
+pub fn join_shares(run: &Run) {
     let (shape, [share0, share1]) = (run.inputs.shape, [&run.sent[0][2], &run.sent[1][2]]);
     let mut joined = vec![0; shape.code_bytes()];
     assert_eq!(interface::join(shape.set, share0, share1, &mut joined), 0, "SEED={}", seed());
     assert_eq!(joined, own_code(&run.inputs), "the joined code, SEED={}", seed());
     for (side, unit) in run.units.iter().enumerate() {
-        let done = State::bare(shape, side as u8, run.session, Stage::Done);
+        let done = State::bare(shape, side as u8, run.shared, Stage::Done);
         assert_eq!(unit.bytes, encode(&done), "a done state, SEED={}", seed());
         assert_eq!(run.sent[side].len(), 3, "three accepted frames, SEED={}", seed());
     }
@@ -37,7 +37,7 @@ fn runs_in_turn_give_the_code() {
     let count = 180;
     for trial in 0..count {
         let inputs = fit_inputs(&mut random, SETS[trial % SETS.len()]);
-        let mut run = Run::start(inputs, random.session());
+        let mut run = Run::start(inputs, random.shared());
         while !run.both_done() {
             let side = random.below(2);
             if let Some(lent) = run.as_sent(&mut random, side) {
@@ -76,10 +76,10 @@ fn strange_entries_change_nothing() {
 /// The same in one set.
 fn strange_entries(random: &mut Random, shape: Shape) {
     let (runs, mut entries, mut whole) = (100, 0, 0);
-    let mut seen = [0usize; 14];
+    let mut seen = [0usize; 16];
     for _ in 0..runs {
         let inputs = fit_inputs(random, shape);
-        let mut run = Run::start(inputs, random.session());
+        let mut run = Run::start(inputs, random.shared());
         let mut spoiled = false;
         for _ in 0..60 {
             let side = random.below(2);
@@ -93,7 +93,7 @@ fn strange_entries(random: &mut Random, shape: Shape) {
             whole += 1;
         }
     }
-    for number in [0, 1, 3, 4, 5, 6, 7, 8, 9, 10, 12] {
+    for number in [0, 1, 3, 4, 5, 6, 7, 8, 9, 10, 12, 15] {
         assert!(seen[number] > 0, "no step gave {number}, SEED={}", seed());
     }
     assert!(whole > runs / 10, "only {whole} of {runs} runs came to their end");
@@ -113,7 +113,7 @@ fn every_flipped_bit_and_cut_of_awaited_frames() {
 
 /// The same in one set, where the largest bodies have one bit in three flipped.
 fn flips_and_cuts(random: &mut Random, shape: Shape) -> usize {
-    let mut run = Run::start(fit_inputs(random, shape), 0x0102_0304);
+    let mut run = Run::start(fit_inputs(random, shape), random.shared());
     let mut tried = 0;
     for turn in 0..6 {
         let side = turn % 2;
@@ -148,7 +148,7 @@ fn output_lengths_of_every_set() {
     let mut random = Random::for_test("step outputs");
     let mut tried = 0;
     for shape in SETS {
-        let mut run = Run::start(fit_inputs(&mut random, shape), 7);
+        let mut run = Run::start(fit_inputs(&mut random, shape), SHARED);
         for turn in 0..6 {
             let side = turn % 2;
             let lent = run.as_sent(&mut random, side).expect("the frame was sent");
@@ -174,10 +174,10 @@ fn frames_and_files_of_another_set() {
     let mut tried = 0;
     let wholes = SETS.map(|shape| {
         let inputs = fit_inputs(&mut random, shape);
-        Run::whole(&mut random, inputs, 7)
+        Run::whole(&mut random, inputs, SHARED)
     });
     for shape in SETS {
-        let mut run = Run::start(fit_inputs(&mut random, shape), 7);
+        let mut run = Run::start(fit_inputs(&mut random, shape), SHARED);
         for turn in 0..6 {
             let side = turn % 2;
             let lent = run.as_sent(&mut random, side).expect("the frame was sent");
@@ -209,8 +209,8 @@ fn done_units_take_no_frame() {
     let mut tried = 0;
     for trial in 0..30 {
         let shape = SETS[trial % SETS.len()];
-        let (inputs, session) = (fit_inputs(&mut random, shape), random.session());
-        let mut run = Run::whole(&mut random, inputs, session);
+        let (inputs, shared) = (fit_inputs(&mut random, shape), random.shared());
+        let mut run = Run::whole(&mut random, inputs, shared);
         for frame in run.frames() {
             for side in 0..2 {
                 let (frame, file) = (frame.clone(), run.inputs.file.clone());

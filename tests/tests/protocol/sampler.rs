@@ -30,11 +30,11 @@ pub fn compare_sample(
         interface::sample(set, start, source, out, next)
     });
     let more = Shape::named(set).map_or(0, |shape| shape.dealt_bytes() - shape.tape_bytes());
-    let (session, room) = (random.session(), room + more);
-    let dealt = with_set(set, |shape| dealer::deal_source(shape, session, start, source, room));
+    let (shared, room) = (random.shared(), room + more);
+    let dealt = with_set(set, |shape| dealer::deal_source(shape, shared, start, source, room));
     let name = format!("set {set}, pair_deal_source from {start}");
     compare_counted(random, &name, [source], room, &dealt, |[source], out, next| {
-        interface::deal_source(set, session, start, source, out, next)
+        interface::deal_source(set, shared, start, source, out, next)
     });
     expected
 }

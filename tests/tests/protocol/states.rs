@@ -5,19 +5,21 @@ use crate::interface;
 use crate::unit::{Lent, Run, Unit};
 use service_pair_tests::guarded::Guarded;
 use service_pair_tests::random::{report, seed, Random};
-use service_pair_tests::reference::frame::{frame_of, length_of_kind, DEAL, HEADER_BYTES};
+use service_pair_tests::reference::frame::{frame_of, length_of_kind, Shared, DEAL, HEADER_BYTES};
 use service_pair_tests::reference::numbers::{DONE, NO_SET};
+use service_pair_tests::reference::program::SHARED;
 use service_pair_tests::reference::shape::{Shape, SETS};
 use service_pair_tests::reference::unit::{Stage, State};
 use service_pair_tests::samples::{
     change, fit_file, fit_inputs, fit_vector, set_both_bits, NO_SETS,
 };
 use service_pair_tests::state_layout::{
-    counted_set, decode, encode, padding, SESSION_AT, SET_AT, SIDE_AT, STAGE_AT, STATE_BYTES,
+    counted_set, decode, encode, padding, LINE_AT, SESSION_AT, SET_AT, SIDE_AT, STAGE_AT,
+    STATE_BYTES,
 };
 
 /// The numbers that a step can give.
-const STEP_NUMBERS: [u32; 11] = [0, 1, 3, 4, 5, 6, 7, 8, 9, 10, 12];
+const STEP_NUMBERS: [u32; 12] = [0, 1, 3, 4, 5, 6, 7, 8, 9, 10, 12, 15];
 
 /// A step on any state bytes. What holds of all: a refusal leaves every byte and
 /// counts 0; a success writes one frame and nothing past it, and a state with its
@@ -57,7 +59,7 @@ fn state_slices_of_other_lengths_are_refused() {
     let mut random = Random::for_test("state lengths");
     for shape in SETS {
         let inputs = fit_inputs(&mut random, shape);
-        let run = Run::start(inputs, 9);
+        let run = Run::start(inputs, random.shared());
         let lent = run.as_sent(&mut random, 0).expect("the deal was sent");
         let long = [run.units[0].bytes.clone(), random.bytes(400)].concat();
         for length in 0..=STATE_BYTES + 300 {
@@ -102,8 +104,8 @@ fn refused_calls(shape: Shape, half: &[u8]) -> Vec<Refused<'_>> {
 
 /// The same in one set.
 fn refused_beginnings(random: &mut Random, shape: Shape) -> usize {
-    let session = random.session();
-    let mut run = Run::start(fit_inputs(random, shape), session);
+    let shared = random.shared();
+    let mut run = Run::start(fit_inputs(random, shape), shared);
     let half = random.bytes(shape.string_bytes() + 1);
     let refused = refused_calls(shape, &half);
     for turn in 0..6 {
@@ -114,7 +116,7 @@ fn refused_beginnings(random: &mut Random, shape: Shape) -> usize {
         let running = slice.clone();
         for &(set, other, key, label, number) in &refused {
             slice.clone_from(&running);
-            let found = interface::begin(set, other, session, key, label, slice.slice_mut());
+            let found = interface::begin(set, other, shared, key, label, slice.slice_mut());
             assert_eq!(found, number, "pair_begin({set}, {other}), SEED={}", seed());
             assert!(slice == idle, "a refused beginning leaves the idle state, SEED={}", seed());
             assert_ne!(any_step(random, slice.slice(), &lent), DONE, "SEED={}", seed());
@@ -133,7 +135,7 @@ fn other_lengths_stay(random: &mut Random, shape: Shape, state: &[u8], half: &[u
         for (set, number) in [(shape.set, 1), (0, NO_SET), (4, NO_SET)] {
             let mut slice = Guarded::lend(random, &bytes);
             let before = slice.clone();
-            let found = interface::begin(set, 0, 1, half, half, slice.slice_mut());
+            let found = interface::begin(set, 0, random.shared(), half, half, slice.slice_mut());
             let context = format!("a state slice of {length} bytes, SEED={}", seed());
             assert_eq!(found, number, "{context}");
             assert!(slice == before, "{context} was written");
@@ -152,7 +154,7 @@ fn frame_of_kind(random: &mut Random, state: &State, kind: u8) -> Vec<u8> {
     let shape = state.shape;
     let side = if kind == DEAL { state.side } else { 1 - state.side };
     let length = length_of_kind(shape, kind).unwrap_or(40) - HEADER_BYTES;
-    let mut frame = frame_of(kind, side, state.session, &random.contents(length));
+    let mut frame = frame_of(kind, side, state.shared, &random.contents(length));
     if kind == DEAL {
         // Both planes random would nearly always be unfit.
         frame[shape.r_in_deal()..].copy_from_slice(&fit_vector(random, shape));
@@ -244,7 +246,7 @@ fn bytes_behind_fields_are_not_read() {
     let mut random = Random::for_test("padding");
     let (rounds, mut tried) = (6, 0);
     for shape in (0..rounds).flat_map(|_| SETS) {
-        let mut run = Run::start(fit_inputs(&mut random, shape), 3);
+        let mut run = Run::start(fit_inputs(&mut random, shape), SHARED);
         for turn in 0..6 {
             let side = turn % 2;
             let lent = run.as_sent(&mut random, side).expect("the frame was sent");
@@ -279,6 +281,7 @@ fn bytes_of_no_state_keep_the_rules() {
         }
         let shape = counted_set(bytes[SET_AT]);
         let session = u32::from_le_bytes([0, 1, 2, 3].map(|at| bytes[SESSION_AT + at]));
+        let shared = Shared { session, line: bytes[LINE_AT] };
         let kind = 1 + random.below(3) as u8;
         let side = random.choose(&[
             0,
@@ -288,7 +291,7 @@ fn bytes_of_no_state_keep_the_rules() {
             1u8.wrapping_sub(bytes[SIDE_AT]),
         ]);
         let length = length_of_kind(shape, kind).unwrap_or(HEADER_BYTES) - HEADER_BYTES;
-        let mut frame = frame_of(kind, side, session, &random.contents(length));
+        let mut frame = frame_of(kind, side, shared, &random.contents(length));
         if kind == DEAL {
             frame[shape.r_in_deal()..].copy_from_slice(&fit_vector(&mut random, shape));
         }

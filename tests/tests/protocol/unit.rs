@@ -5,6 +5,7 @@ use crate::frames::{strange_file, strange_frame, strange_room};
 use crate::interface;
 use service_pair_tests::guarded::{compare_bytes, Guarded};
 use service_pair_tests::random::{seed, Random};
+use service_pair_tests::reference::frame::Shared;
 use service_pair_tests::reference::numbers::DONE;
 use service_pair_tests::reference::program::Inputs;
 use service_pair_tests::reference::unit::{self, Stage, State};
@@ -35,12 +36,12 @@ pub struct Unit {
 
 impl Unit {
     /// An accepted beginning of both.
-    pub fn begin(side: usize, session: u32, inputs: &Inputs) -> Unit {
+    pub fn begin(side: usize, shared: Shared, inputs: &Inputs) -> Unit {
         let (key, label) = (&inputs.key_halves[side], &inputs.label_halves[side]);
         let (shape, side) = (inputs.shape, side as u32);
         let mut bytes = vec![0xa5; STATE_BYTES];
-        let number = interface::begin(shape.set, side, session, key, label, &mut bytes);
-        let (expected, state) = unit::begin(shape, side, session, key, label);
+        let number = interface::begin(shape.set, side, shared, key, label, &mut bytes);
+        let (expected, state) = unit::begin(shape, side, shared, key, label);
         assert_eq!((number, expected), (DONE, DONE), "pair_begin, SEED={}", seed());
         assert_eq!(bytes, encode(&state), "the begun state, SEED={}", seed());
         Unit { bytes, state }
@@ -76,23 +77,24 @@ impl Unit {
 #[derive(Clone, Debug)]
 pub struct Run {
     pub inputs: Inputs,
-    pub session: u32,
+    pub shared: Shared,
     pub deals: [Vec<u8>; 2],
     pub units: [Unit; 2],
     pub sent: [Vec<Vec<u8>>; 2],
 }
 
 impl Run {
-    /// "A run starts with the deal of its session and tape and with two units".
-    pub fn start(inputs: Inputs, session: u32) -> Run {
+    /// "A run starts with the deal of its session and tape and with two units", and
+    /// dealer and units have one line.
+    pub fn start(inputs: Inputs, shared: Shared) -> Run {
         let shape = inputs.shape;
         let mut dealt = vec![0; shape.dealt_bytes()];
-        let number = interface::deal(shape.set, session, &inputs.tape, &mut dealt);
+        let number = interface::deal(shape.set, shared, &inputs.tape, &mut dealt);
         assert_eq!(number, DONE, "pair_deal of an accepted tape, SEED={}", seed());
         let (deal0, deal1) = dealt.split_at(shape.deal_bytes());
         let deals = [deal0.to_vec(), deal1.to_vec()];
-        let units = [0, 1].map(|side| Unit::begin(side, session, &inputs));
-        Run { inputs, session, deals, units, sent: [Vec::new(), Vec::new()] }
+        let units = [0, 1].map(|side| Unit::begin(side, shared, &inputs));
+        Run { inputs, shared, deals, units, sent: [Vec::new(), Vec::new()] }
     }
 
     /// "the frame is the one that the unit waits for, the dealer's for it or the
@@ -124,7 +126,7 @@ impl Run {
         let frame = match self.awaited(side) {
             // The right frame, so that it is the file or the slice that is not.
             Some(frame) if random.once_in(4) => frame.clone(),
-            _ => strange_frame(random, shape, &known, self.session),
+            _ => strange_frame(random, shape, &known, self.shared),
         };
         let file = strange_file(random, shape, &self.inputs.file);
         Lent { frame, file, room: strange_room(random, shape) }
@@ -156,8 +158,8 @@ impl Run {
     }
 
     /// A whole run, each unit's entries as sent and in turn.
-    pub fn whole(random: &mut Random, inputs: Inputs, session: u32) -> Run {
-        let mut run = Run::start(inputs, session);
+    pub fn whole(random: &mut Random, inputs: Inputs, shared: Shared) -> Run {
+        let mut run = Run::start(inputs, shared);
         for turn in 0..6 {
             let lent = run.as_sent(random, turn % 2).expect("the frame was sent");
             run.step(random, turn % 2, &lent);

@@ -5,7 +5,7 @@ use crate::unit::{Lent, Outcome, Run};
 use service_pair_tests::random::{report, seed, Random};
 use service_pair_tests::reference::dealer::tape_accepted;
 use service_pair_tests::reference::pairing::paired_tape;
-use service_pair_tests::reference::program::Inputs;
+use service_pair_tests::reference::program::{Inputs, SHARED};
 use service_pair_tests::reference::shape::{Shape, SETS};
 use service_pair_tests::samples::fit_inputs;
 
@@ -98,9 +98,9 @@ fn equal_views(random: &mut Random, shape: Shape) {
     let (mut steps, mut finished) = ([0; 2], [0; 2]);
     for trial in 0..trials {
         let fixed = trial % 2;
-        let session = random.session();
+        let shared = random.shared();
         let inputs = paired_inputs(random, shape, fixed);
-        let mut runs = inputs.map(|inputs| Run::start(inputs, session));
+        let mut runs = inputs.map(|inputs| Run::start(inputs, shared));
         assert_eq!(runs[0].units[fixed].bytes, runs[1].units[fixed].bytes, "SEED={}", seed());
         let length = random.below(60);
         let [first, second] = play(random, &mut runs, fixed, length);
@@ -127,7 +127,7 @@ fn unpaired_tapes_give_other_views() {
         let mut second = first.clone();
         second.key_halves[1 - fixed][0] ^= 1;
         let views = [first, second]
-            .map(|inputs| Run::whole(&mut random, inputs, 1).sent[1 - fixed].clone());
+            .map(|inputs| Run::whole(&mut random, inputs, SHARED).sent[1 - fixed].clone());
         assert_ne!(views[0][0], views[1][0], "SEED={}", seed());
     }
     report("protocol: unpaired tapes", 18);

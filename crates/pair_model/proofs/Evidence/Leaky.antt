@@ -1,5 +1,5 @@
--- Two leaky protocols, which differ from the protocol in the step alone, and that they do not have `Privacy`.
-use Prim.Native.Nat.{ℕ, _≤_}
+-- Protocols that send other open frames, and that they do not have `Privacy`.
+use Prim.Native.Nat.{ℕ, _+_, _≤_}
 use mathlib.Core.Path.{_≡_, refl, sym, ap, _∙_, subst}
 use mathlib.Core.Logic.{_≢_}
 use mathlib.Core.List.{List, [], _∷_, _++_}
@@ -9,17 +9,17 @@ use native.Mathlib.Nat.{le-refl}
 use lib.Dec.{eqb}
 use lib.ListN.{length, getD}
 use lib.Seq.{take-at}
-use Rattle.linear_model.specs.Bits.{zeros}
+use Rattle.linear_model.specs.Bits.{zeros, bit}
 use Rattle.pair_model.specs.Scheme.{Files, noFiles, Scheme, Linear, Side, side0, side1, field, concat}
 use Rattle.pair_model.specs.Tape.{Accepted}
-use Rattle.pair_model.specs.Frame.{dealKind, frame, header, kindOf, bodyOf, openLayout}
-use Rattle.pair_model.specs.Unit.{Stepped, refused, idle, stepReading, leastOutput, stepNumber, takeDeal, takeOpen, advance, step}
-use Rattle.pair_model.specs.Run.{Protocol, protocol, Inputs, WellFormed, Run, runOf, Configuration, asSent, Entry, entry, SharedEntry, same, update, start, framesFor, frameOf, stepOf, next, DeliveredAsSent, firstOf, secondOf}
+use Rattle.pair_model.specs.Frame.{dealKind, frame, header, kindOf, lineOf, bodyOf, openLayout}
+use Rattle.pair_model.specs.Unit.{State, Stepped, refused, idle, withDeal, stepReading, leastOutput, stepNumber, takeDeal, takeOpen, advance, step}
+use Rattle.pair_model.specs.Run.{Protocol, Inputs, WellFormed, Run, runOf, Configuration, asSent, Entry, entry, SharedEntry, same, update, start, framesFor, frameOf, stepOf, next, DeliveredAsSent, firstOf, secondOf}
 use Rattle.pair_model.specs.View.{Event, View, events, view}
 use Rattle.pair_model.specs.Theorem.{SameForFixed, Hides, Privacy}
 use Rattle.pair_model.proofs.Theorem.Stages.{parametersAt, incoming, unitAt, accepts-deal}
 use Rattle.pair_model.proofs.Theorem.Configurations.{configurationAt, start-at}
-use Rattle.pair_model.specs.Leaky.{small, stepBy, takeDealBare, bareKey}
+use Rattle.pair_model.specs.Leaky.{small, stepBy, withOpenFrame, bareOpen, bareKey, openOfLine, tellingLine}
 use Rattle.pair_model.proofs.Evidence.Small.{a, b, well₁, well₂, same-for, zero-one, small-linear, zero-tape}
 
 -- with the unit's own ways a step is the unit's step
@@ -61,7 +61,11 @@ none = record { frame = []; files = noFiles; result = 0; written = []; after = i
 abbrev pub eventAt : ℕ → View → Event
 eventAt k v = getD (v .events) k none
 
-module _ (S : Scheme) (L : Linear S) (a : Inputs) (tape : List ℕ) (well : WellFormed S a) (h : Accepted S tape) (lent : Files) where
+-- the frame that side i writes at its deal, where it writes another open frame
+abbrev openFrame : (State → List ℕ → List ℕ) → (S : Scheme) → Inputs → List ℕ → Side → List ℕ
+openFrame other S a tape i = other (unitAt S a tape i 0) (bodyOf (incoming S a tape i 0))
+
+module _ (other : State → List ℕ → List ℕ) (S : Scheme) (L : Linear S) (a : Inputs) (tape : List ℕ) (well : WellFormed S a) (h : Accepted S tape) (lent : Files) where
   R : Run
   R = runOf a tape
 
@@ -71,75 +75,76 @@ module _ (S : Scheme) (L : Linear S) (a : Inputs) (tape : List ℕ) (well : Well
   number-deal : (i : Side) → stepNumber S (parametersAt S a tape i) dealKind (incoming S a tape i 0) lent (leastOutput S) ≡ 0
   number-deal i = accepts-deal S L a tape well h i lent (leastOutput S) (le-refl (leastOutput S))
 
-  -- ---- the key half sent bare
+  -- ---- the open frame is another one
 
-  bareDeal : Side → Stepped
-  bareDeal i = takeDealBare S (unitAt S a tape i 0) (bodyOf (incoming S a tape i 0))
+  abbrev P : Protocol
+  P = withOpenFrame S other
+
+  opened : Side → Stepped
+  opened i = record { result = 0; written = openFrame other S a tape i; next = withDeal S (unitAt S a tape i 0) (bodyOf (incoming S a tape i 0)) }
 
   B₁ : Configuration
-  B₁ = stepped C₀ side1 (bareDeal side1)
+  B₁ = stepped C₀ side1 (opened side1)
 
   B₂ : Configuration
-  B₂ = stepped B₁ side0 (bareDeal side0)
+  B₂ = stepped B₁ side0 (opened side0)
 
-  bare-first : next (bareKey S) R C₀ (sent S lent side1) ≡ B₁
-  unfolding B₁ bareDeal R stepBy configurationAt unitAt incoming
-  bare-first =
-      next-by (bareKey S) R C₀ (sent S lent side1) (bareDeal side1)
-      (λ j. cond (eqb (number-deal side1 j) 0) (bareDeal side1) (refused (number-deal side1 j) (unitAt S a tape side1 0)))
+  first-opened : next P R C₀ (sent S lent side1) ≡ B₁
+  unfolding B₁ opened R stepBy configurationAt unitAt incoming
+  first-opened =
+      next-by P R C₀ (sent S lent side1) (opened side1)
+      (λ j. cond (eqb (number-deal side1 j) 0) (opened side1) (refused (number-deal side1 j) (unitAt S a tape side1 0)))
 
-  bare-second : next (bareKey S) R B₁ (sent S lent side0) ≡ B₂
-  unfolding B₁ B₂ bareDeal R stepBy configurationAt unitAt incoming takeDealBare
-  bare-second =
-      next-by (bareKey S) R B₁ (sent S lent side0) (bareDeal side0)
-      (λ j. cond (eqb (number-deal side0 j) 0) (bareDeal side0) (refused (number-deal side0 j) (unitAt S a tape side0 0)))
+  second-opened : next P R B₁ (sent S lent side0) ≡ B₂
+  unfolding B₁ B₂ opened R stepBy configurationAt unitAt incoming
+  second-opened =
+      next-by P R B₁ (sent S lent side0) (opened side0)
+      (λ j. cond (eqb (number-deal side0 j) 0) (opened side0) (refused (number-deal side0 j) (unitAt S a tape side0 0)))
 
   -- what side 0 is lent then
-  bare-frame : frameOf (bareKey S) R B₂ side0 asSent ≡ bareDeal side1 .written
-  unfolding B₁ B₂ bareDeal R configurationAt unitAt takeDealBare
-  bare-frame = refl
+  frame-lent : frameOf P R B₂ side0 asSent ≡ openFrame other S a tape side1
+  unfolding B₁ B₂ opened R configurationAt unitAt
+  frame-lent = refl
 
   module _ (e : lent ≡ a .files) where
     abbrev Delivered : Configuration → Side → Type 0
-    Delivered c i = DeliveredAsSent (bareKey S) R c (sent S lent i)
+    Delivered c i = DeliveredAsSent P R c (sent S lent i)
 
-    bare-c₁ : next (bareKey S) R (start (bareKey S) R) (sent S lent side1) ≡ B₁
+    after-first : next P R (start P R) (sent S lent side1) ≡ B₁
     unfolding R
-    bare-c₁ = ap (λ (c : Configuration). next (bareKey S) R c (sent S lent side1)) (start-at S a well tape) ∙ bare-first
+    after-first = ap (λ (c : Configuration). next P R c (sent S lent side1)) (start-at S a well tape) ∙ first-opened
 
-    bare-c₂ : next (bareKey S) R (next (bareKey S) R (start (bareKey S) R) (sent S lent side1)) (sent S lent side0) ≡ B₂
-    bare-c₂ = ap (λ (c : Configuration). next (bareKey S) R c (sent S lent side0)) bare-c₁ ∙ bare-second
+    after-second : next P R (next P R (start P R) (sent S lent side1)) (sent S lent side0) ≡ B₂
+    after-second = ap (λ (c : Configuration). next P R c (sent S lent side0)) after-first ∙ second-opened
 
     -- the three entries are delivered as sent
-    bare-v₀ : Delivered (start (bareKey S) R) side1
+    delivered-first : Delivered (start P R) side1
     unfolding R configurationAt unitAt
-    bare-v₀ = delivered-at (bareKey S) R lent e side1 (start-at S a well tape) (omega arith) (omega arith)
+    delivered-first = delivered-at P R lent e side1 (start-at S a well tape) (omega arith) (omega arith)
 
-    bare-v₁ : Delivered (next (bareKey S) R (start (bareKey S) R) (sent S lent side1)) side0
-    unfolding R B₁ bareDeal configurationAt unitAt takeDealBare
-    bare-v₁ = delivered-at (bareKey S) R lent e side0 bare-c₁ (omega arith) (omega arith)
+    delivered-second : Delivered (next P R (start P R) (sent S lent side1)) side0
+    unfolding R B₁ opened configurationAt unitAt
+    delivered-second = delivered-at P R lent e side0 after-first (omega arith) (omega arith)
 
-    bare-v₂ : Delivered (next (bareKey S) R (next (bareKey S) R (start (bareKey S) R) (sent S lent side1)) (sent S lent side0)) side0
-    unfolding R B₁ B₂ bareDeal configurationAt unitAt takeDealBare
-    bare-v₂ = delivered-at (bareKey S) R lent e side0 bare-c₂ (omega arith) (omega arith)
+    delivered-third : Delivered (next P R (next P R (start P R) (sent S lent side1)) (sent S lent side0)) side0
+    unfolding R B₁ B₂ opened configurationAt unitAt
+    delivered-third = delivered-at P R lent e side0 after-second (omega arith) (omega arith)
 
-    -- and the third hands side 0 the key half of side 1
-    bare-seen : let c₁ = next (bareKey S) R (start (bareKey S) R) (sent S lent side1) in
-        field (openLayout S) 0 (bodyOf (frameOf (bareKey S) R (next (bareKey S) R c₁ (sent S lent side0)) side0 asSent)) ≡ a .key side1
-    unfolding R bareDeal unitAt takeDealBare field concat frame header
-    bare-seen =
-        ap (λ (f : List ℕ). field (openLayout S) 0 (bodyOf f)) (ap (λ (c : Configuration). frameOf (bareKey S) R c side0 asSent) bare-c₂ ∙ bare-frame)
-        ∙ take-at (a .key side1) _ (S .keyBytes) (well .key side1 .size)
+    -- and the third hands side 0 that frame of side 1, accepted or not
+    seen : let c₁ = next P R (start P R) (sent S lent side1) in frameOf P R (next P R c₁ (sent S lent side0)) side0 asSent ≡ openFrame other S a tape side1
+    unfolding R
+    seen = ap (λ (c : Configuration). frameOf P R c side0 asSent) after-second ∙ frame-lent
 
--- the key half of the other unit can be seen
-pub bare-key-leaks : (S : Scheme) → Linear S → (a b : Inputs) → WellFormed S a → WellFormed S b → SameForFixed side0 a b → a .key side1 ≢ b .key side1
-    → (tape : List ℕ) → Accepted S tape → ¬ Privacy (bareKey S)
+-- where an open frame tells something of its sender's inputs, whatever the tape, and two runs' inputs differ in it, there is no `Privacy`
+pub open-frame-leaks : (other : State → List ℕ → List ℕ) (S : Scheme) → Linear S → (a b : Inputs) → WellFormed S a → WellFormed S b → SameForFixed side0 a b
+    → {A : Type 0} (look : List ℕ → A) (told : Inputs → A) → ((c : Inputs) → WellFormed S c → (tape : List ℕ) → look (openFrame other S c tape side1) ≡ told c)
+    → told a ≢ told b → (tape : List ℕ) → Accepted S tape → ¬ Privacy (withOpenFrame S other)
 unfolding R view events
-bare-key-leaks S L a b well₁ well₂ g differ tape h privacy =
-    differ (sym (bare-seen S L a tape well₁ h (a .files) refl) ∙ ap (λ (v : View). field (openLayout S) 0 (bodyOf (eventAt 1 v .frame))) views
-    ∙ bare-seen S L b u well₂ (H .pairing .forth-holds tape h) (a .files) (g .files))
+open-frame-leaks other S L a b well₁ well₂ g look told tells differ tape h privacy =
+    differ (sym (tells a well₁ tape) ∙ ap look (sym (seen other S L a tape well₁ h (a .files) refl)) ∙ ap (λ (v : View). look (eventAt 1 v .frame)) views
+    ∙ ap look (seen other S L b u well₂ (H .pairing .forth-holds tape h) (a .files) (g .files)) ∙ tells b well₂ u)
   where
-    H : Hides (bareKey S) side0 a b
+    H : Hides (withOpenFrame S other) side0 a b
     H = privacy side0 a b well₁ well₂ g
 
     u : List ℕ
@@ -148,12 +153,21 @@ bare-key-leaks S L a b well₁ well₂ g differ tape h privacy =
     es : List SharedEntry
     es = same (sent S (a .files) side1) ∷ same (sent S (a .files) side0) ∷ same (sent S (a .files) side0) ∷ []
 
-    views : view (bareKey S) side0 (runOf a tape) (firstOf side0 es) ≡ view (bareKey S) side0 (runOf b u) (secondOf side0 es)
+    views : view (withOpenFrame S other) side0 (runOf a tape) (firstOf side0 es) ≡ view (withOpenFrame S other) side0 (runOf b u) (secondOf side0 es)
     views =
         H .sameView tape h es
-        (bare-v₀ S L a tape well₁ h (a .files) refl, (bare-v₁ S L a tape well₁ h (a .files) refl, (bare-v₂ S L a tape well₁ h (a .files) refl, tt)))
+        (delivered-first other S L a tape well₁ h (a .files) refl, (delivered-second other S L a tape well₁ h (a .files) refl, (delivered-third other S L a tape well₁ h (a .files) refl, tt)))
         .views
 
--- at the small scheme: key halves 0 and 1 of side 1
+-- at the small scheme: key halves 0 and 1 of side 1, in the open frame's body
 pub bare-key : ¬ Privacy (bareKey small)
-bare-key = bare-key-leaks small small-linear a b well₁ well₂ same-for (zero-one [] []) (zeros 8) zero-tape
+unfolding unitAt bareOpen field concat frame header
+bare-key =
+    open-frame-leaks (bareOpen small) small small-linear a b well₁ well₂ same-for (λ f. field (openLayout small) 0 (bodyOf f)) (λ c. c .key side1)
+    (λ c well tape. take-at (c .key side1) _ 1 (well .key side1 .size)) (zero-one [] []) (zeros 8) zero-tape
+
+-- and their bit 0 in its line
+pub telling-line : ¬ Privacy (tellingLine small)
+unfolding unitAt openOfLine frame header bit
+telling-line =
+    open-frame-leaks _ small small-linear a b well₁ well₂ same-for lineOf (λ c. c .shared .line + bit (c .key side1) 0) (λ c well tape. refl) (λ e. omega (arith, e)) (zeros 8) zero-tape

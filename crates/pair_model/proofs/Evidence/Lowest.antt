@@ -1,28 +1,28 @@
 -- Every call's numbers rise, so each call returns the lowest number whose condition holds.
 use Prim.Native.Nat.{ℕ}
-use mathlib.Core.Path.{_≡_}
-use mathlib.Core.List.{List, [], _∷_, _++_}
-use mathlib.Core.Bool.{Bool, true, false, cond}
-use lib.Dec.{T, eqb, eqb→eq, lit≤}
-use Rattle.numbers.specs.Number.{_when_, onlyIf, merge}
+use mathlib.Core.List.{List}
+use mathlib.Core.Bool.{not}
+use lib.Dec.{eqb, lit≤}
+use Rattle.numbers.specs.Number.{merge}
 use Rattle.numbers.specs.Lowest.{RisingFrom, Rising}
-use Rattle.numbers.proofs.Lowest.{rising-from, rising-end, rising-merge, first-lowest}
+use Rattle.numbers.proofs.Lowest.{rising-from, UpTo, rising-last, rising-merge, first-lowest}
 use Rattle.matrix_model.specs.File.{layoutOf}
 use Rattle.numbers.proofs.Sets.{lowest-in}
-use Rattle.matrix_model.proofs.Lowest.{faults-rise, check-lowest, read-lowest, write-lowest}
-use Rattle.pair_model.specs.Scheme.{Files, readsNothing, faultsIn, Scheme}
+use Rattle.matrix_model.proofs.Lowest.{faults-rise, faults-up-to, check-lowest, read-lowest, write-lowest}
+use Rattle.pair_model.specs.Scheme.{Files, faultsIn, Scheme}
 use Rattle.pair_model.specs.Base.{schemeOf}
-use Rattle.pair_model.specs.Frame.{Parameters, dealKind, openKind, maskKind, kindOf}
+use Rattle.pair_model.specs.Frame.{Parameters, lineOf}
 use Rattle.source_model.specs.Draw.{sourceConditions}
 use Rattle.pair_model.specs.Sampler.{shortConditions, sampleConditions}
 use Rattle.pair_model.specs.Evaluator.{evaluateConditions}
-use Rattle.pair_model.specs.Unit.{stepReading, unfitDeal, beginConditions, contentConditions, stepConditions, unitBegin}
+use Rattle.pair_model.specs.Unit.{beginConditions, contentConditions, stepConditions, unitBegin}
 use Rattle.pair_model.specs.Join.{joinConditions}
 use Rattle.pair_model.specs.Dealer.{dealConditions, dealSourceConditions}
 use Rattle.pair_model.specs.StateSlice.{setIn, decodeState, pairBeginNumber, pairStepNumber}
 use Rattle.pair_model.specs.WholeRun.{runConditions}
 use Rattle.pair_model.specs.Lowest.{LowestNumbers}
 use Rattle.pair_model.proofs.Theorem.StepLaws.{step-result}
+use Rattle.pair_model.proofs.Internal.Contents.{content-rises, content-up-to}
 
 module _ (S : Scheme) where
   begin-rises : (t : Parameters) (key label : List ℕ) → Rising (beginConditions S t key label)
@@ -31,7 +31,7 @@ module _ (S : Scheme) where
 
   join-rises : (f g : List ℕ) (n : ℕ) → Rising (joinConditions S f g n)
   unfolding joinConditions
-  join-rises f g n = (lit≤ tt, (lit≤ tt, (lit≤ tt, (lit≤ tt, (lit≤ tt, (lit≤ tt, (lit≤ tt, tt)))))))
+  join-rises f g n = (lit≤ tt, (lit≤ tt, (lit≤ tt, (lit≤ tt, (lit≤ tt, (lit≤ tt, (lit≤ tt, (lit≤ tt, tt))))))))
 
   -- what a source is short of is 13
   short-rises : (source : List ℕ) (s : ℕ) → RisingFrom 13 (shortConditions S source s)
@@ -62,27 +62,13 @@ module _ (S : Scheme) where
       evaluate-rises key label n =
           (lit≤ tt, (lit≤ tt, (lit≤ tt, (lit≤ tt, (lit≤ tt, rising-from 1 8 (merge _ _) (lit≤ tt) (rising-merge 8 _ _ product rows))))))
 
-      -- of what a step reads
-      step-faults-rise : (kind : ℕ) → RisingFrom 8 (faultsIn (stepReading S kind) lent)
-      step-faults-rise kind = pick (eqb kind maskKind) (eqb kind openKind)
-        where
-          pick : (b c : Bool) → RisingFrom 8 (faultsIn (cond b (S .rowsReading) (cond c (S .productReading) readsNothing)) lent)
-          pick true c = rows
-          pick false true = product
-          pick false false = tt
-
-      -- after 7 come those, or 10 of a deal, at which nothing is read
-      content-rises : (f : List ℕ) → RisingFrom 7 (contentConditions S f lent)
-      unfolding onlyIf
-      content-rises f = pick (eqb (kindOf f) dealKind) (eqb→eq (kindOf f) dealKind)
-        where
-          pick : (b : Bool) → (T b → kindOf f ≡ dealKind) → RisingFrom 7 (faultsIn (stepReading S (kindOf f)) lent ++ onlyIf b (10 when unfitDeal S f ∷ []))
-          pick true e = rw (e tt) (lit≤ tt, tt)
-          pick false e = rising-end 7 (faultsIn (stepReading S (kindOf f)) lent) (rising-from 7 8 (faultsIn (stepReading S (kindOf f)) lent) (lit≤ tt) (step-faults-rise (kindOf f)))
-
-      step-rises : (t : Parameters) (stage : ℕ) (f : List ℕ) (n : ℕ) → Rising (stepConditions S t stage f lent n)
+      -- and are no higher than 12
+      step-rises : UpTo 12 (faultsIn (S .productReading) lent) → UpTo 12 (faultsIn (S .rowsReading) lent)
+          → (t : Parameters) (stage : ℕ) (f : List ℕ) (n : ℕ) → Rising (stepConditions S t stage f lent n)
       unfolding stepConditions
-      step-rises t stage f n = (lit≤ tt, (lit≤ tt, (lit≤ tt, (lit≤ tt, (lit≤ tt, (lit≤ tt, (lit≤ tt, content-rises f)))))))
+      step-rises p q t stage f n =
+          let line = rising-last 7 12 15 (not (eqb (lineOf f) (t .shared .line))) (contentConditions S f lent) (lit≤ tt) (lit≤ tt) (content-rises S lent product rows f) (content-up-to S lent p q f) in
+          (lit≤ tt, (lit≤ tt, (lit≤ tt, (lit≤ tt, (lit≤ tt, (lit≤ tt, (lit≤ tt, line)))))))
 
 run-rises : (input : List ℕ) (n : ℕ) → Rising (runConditions input n)
 unfolding runConditions
@@ -101,10 +87,10 @@ lowest-numbers =
       steps =
           λ u f lent n.
           rw (step-result (schemeOf (u .set)) u f lent n)
-          (first-lowest (step-rises (schemeOf (u .set)) lent tt (faults-rise (layoutOf (u .set)) (lent .matrix)) (u .parameters) (u .stage) f n));
+          (first-lowest (step-rises (schemeOf (u .set)) lent tt (faults-rise (layoutOf (u .set)) (lent .matrix)) tt (faults-up-to (layoutOf (u .set)) (lent .matrix)) (u .parameters) (u .stage) f n));
       steps-slice =
           λ s f lent n. let u = decodeState s in
-          first-lowest (lit≤ tt, step-rises (schemeOf (setIn s)) lent tt (faults-rise (layoutOf (setIn s)) (lent .matrix)) (u .parameters) (u .stage) f n);
+          first-lowest (lit≤ tt, step-rises (schemeOf (setIn s)) lent tt (faults-rise (layoutOf (setIn s)) (lent .matrix)) tt (faults-up-to (layoutOf (setIn s)) (lent .matrix)) (u .parameters) (u .stage) f n);
       joins = λ set f g n. lowest-in set _ (join-rises (schemeOf set) f g n);
       writes = write-lowest;
       reads = read-lowest;

@@ -22,6 +22,7 @@ use Rattle.matrix_model.proofs.Sample.{trit-is, sample-survives}
 use Rattle.numbers.specs.Number.{first}
 use Rattle.pair_model.specs.Scheme.{Side, side0, side1, other, files, readingNumber, field}
 use Rattle.pair_model.specs.Tape.{r0, Accepted}
+use Rattle.pair_model.specs.Unit.{leastOutput}
 use Rattle.pair_model.specs.Evaluator.{codeOf, code}
 use Rattle.pair_model.specs.Base.{base}
 use Rattle.pair_model.specs.Run.{WellFormed, runOf, protocol, sentCount, start, final, DeliveredAsSent, firstOf}
@@ -49,7 +50,7 @@ well =
     record {
       key = λ i. elim i [ side0 ↦ one-byte 1 (lit< tt) | side1 ↦ bytes-zeros 32 ];
       label = λ i. elim i [ side0 ↦ one-byte 5 (lit< tt) | side1 ↦ bytes-zeros 32 ];
-      shared = record { session = lit< tt };
+      shared = record { session = lit< tt; line = lit< tt };
       product = refl;
       rows = sample-survives .fit;
     }
@@ -107,7 +108,7 @@ run-correct = correct base (set-linear 1) sampleInputs (zeros 256) well accepted
 
 available : (i : Side) → DeliveredAsSent (protocol base) sampleRun (start (protocol base) sampleRun) (sampleEntry i)
 unfolding sentCount final
-available i = run-correct .available [] tt (sampleEntry i) (record { notDone = lit< tt; notAhead = lit≤ tt; files = refl; output = le-refl 70 })
+available i = run-correct .available [] tt (sampleEntry i) (record { notDone = lit< tt; notAhead = lit≤ tt; files = refl; output = le-refl (leastOutput base) })
 
 not-ahead : let P = protocol base in ¬ DeliveredAsSent P sampleRun (final P sampleRun (start P sampleRun) (sampleEntry side0 ∷ [])) (sampleEntry side0)
 unfolding sentCount

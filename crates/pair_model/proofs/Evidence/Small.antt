@@ -25,10 +25,10 @@ use Rattle.pair_model.proofs.Theorem.Main.{circulant-linear}
 pub small-linear : Linear small
 small-linear = circulant-linear 1 1 1 _
 
--- both key halves, both label halves, session 1 and a file whose one row has trit 1 in column 0
+-- both key halves, both label halves, session 1, line 0 and a file whose one row has trit 1 in column 0
 abbrev pub smallInputs : (key0 key1 label0 label1 : ℕ) → Inputs
 smallInputs key0 key1 label0 label1 =
-    record { key = ofSides (key0 ∷ []) (key1 ∷ []); label = ofSides (label0 ∷ []) (label1 ∷ []); shared = sharedParameters 1; files = files (1 ∷ 0 ∷ []) }
+    record { key = ofSides (key0 ∷ []) (key1 ∷ []); label = ofSides (label0 ∷ []) (label1 ∷ []); shared = sharedParameters 1 0; files = files (1 ∷ 0 ∷ []) }
 
 -- they are well-formed where all halves are bytes
 pub small-well : (key0 key1 label0 label1 : ℕ) → key0 < 256 → key1 < 256 → label0 < 256 → label1 < 256
@@ -38,7 +38,7 @@ small-well key0 key1 label0 label1 h0 h1 h2 h3 =
     record {
       key = λ i. elim i [ side0 ↦ bytes-one key0 h0 | side1 ↦ bytes-one key1 h1 ];
       label = λ i. elim i [ side0 ↦ bytes-one label0 h2 | side1 ↦ bytes-one label1 h3 ];
-      shared = record { session = lit< tt };
+      shared = record { session = lit< tt; line = lit< tt };
       product = refl;
       rows = refl;
     }

@@ -10,6 +10,7 @@ use Rattle.pair_model.proofs.Theorem.Main.{private, demand3, circulant-
 use Rattle.pair_model.proofs.Evidence.Lowest.{lowest-numbers}
 use Rattle.pair_model.proofs.Evidence.Examples.{twelve-examples}
 use Rattle.pair_model.proofs.Evidence.SetExamples.{set-examples}
+use Rattle.pair_model.proofs.Evidence.LineExamples.{line-examples}
 use Rattle.pair_model.proofs.Evidence.Sample.{sample-compared}
 use Rattle.pair_model.proofs.Evidence.Strays.{shared-comparable}
 use Rattle.pair_model.proofs.Evidence.Dealing.{deal-accepted, sampled-accepted, sampler-is}
@@ -17,8 +18,8 @@ use Rattle.pair_model.proofs.Evidence.OtherShare.{other-share-frame}
 use Rattle.pair_model.specs.Leaky.{small}
 use Rattle.pair_model.proofs.Evidence.Small.{small-linear}
 use Rattle.pair_model.proofs.Evidence.Leaky.{own-step}
-use Rattle.pair_model.proofs.Evidence.Wrong.{bare-key-fails, without-z-fails, inner-mask-fails, uneven-mask-fails, other-key-fails, refuses-all-fails, second-deal-fails, telling-number-fails, clearing-refusal-fails, idle-takes-fails, done-takes-fails, beyond-takes-fails, refused-beginning-fails}
-use Rattle.pair_model.proofs.Evidence.WrongMask.{empty-mask-fails, half-for-mask-fails, copied-mask-fails}
+use Rattle.pair_model.proofs.Evidence.Wrong.{bare-key-fails, telling-line-fails, without-z-fails, inner-mask-fails, uneven-mask-fails, other-key-fails, refuses-all-fails, second-deal-fails, telling-number-fails, clearing-refusal-fails, idle-takes-fails, done-takes-fails, beyond-takes-fails, refused-beginning-fails}
+use Rattle.pair_model.proofs.Evidence.WrongMask.{lost-line-fails, empty-mask-fails, half-for-mask-fails, copied-mask-fails}
 
 -- at any size
 circulant-laws : (set n t : ℕ) (F : Format) → Laws (circulantScheme set n t F)
@@ -40,6 +41,7 @@ evidence =
     record {
       examples = twelve-examples;
       sets = set-examples;
+      lines = line-examples;
       lowest = lowest-numbers;
       falling = falling-first;
       sample = sample-compared;
@@ -49,6 +51,8 @@ evidence =
       passes = demand3 small small-linear;
       ownStep = own-step;
       bareKey = bare-key-fails;
+      tellingLine = telling-line-fails;
+      lostLine = lost-line-fails;
       withoutZ = without-z-fails;
       innerMaskDealt = inner-mask-fails;
       unevenMaskDealt = uneven-mask-fails;

@@ -11,17 +11,17 @@ use Rattle.linear_model.specs.Trits.{trit, fitTrits}
 use Rattle.linear_model.specs.Products.{bitProduct}
 use Rattle.numbers.specs.Number.{first, onlyIf}
 use Rattle.pair_model.specs.Scheme.{noFiles, side0, side1, field}
-use Rattle.pair_model.specs.Frame.{parameters, openKind, frame}
+use Rattle.pair_model.specs.Frame.{parameters, openKind}
 use Rattle.pair_model.specs.Header.{readHeader}
 use Rattle.pair_model.specs.Unit.{State, state, nothing, halves, idleStage, doneStage, leastOutput, beginConditions, begin, stepConditions, takeDeal, step}
 use Rattle.pair_model.specs.Run.{runOf, Lent, same, strayOf, start, DeliveredAsSent}
 use Rattle.pair_model.specs.View.{View, events, view}
 use Rattle.pair_model.specs.Theorem.{Demand3}
-use Rattle.pair_model.specs.Leaky.{small, bareKey, withoutZ, innerMaskDealt, unevenMaskDealt, otherKeyShown, refusesAll, dealAgain, secondDeal, numberByKey, tellingNumber, clearedIfRefused, clearingRefusal, takenAt, takesAt, refusedBeginning}
+use Rattle.pair_model.specs.Leaky.{small, bareKey, tellingLine, withoutZ, innerMaskDealt, unevenMaskDealt, otherKeyShown, refusesAll, dealAgain, secondDeal, numberByKey, tellingNumber, clearedIfRefused, clearingRefusal, takenAt, takesAt, refusedBeginning}
 use Rattle.pair_model.proofs.Theorem.Pairing.{innerOf}
 use Rattle.pair_model.proofs.Theorem.Layouts.{bytes-one}
 use Rattle.pair_model.proofs.Evidence.Small.{a, b, well₁, well₂, same-for, zero-one, small-linear, zero-tape}
-use Rattle.pair_model.proofs.Evidence.Leaky.{sent, bare-key}
+use Rattle.pair_model.proofs.Evidence.Leaky.{sent, bare-key, telling-line}
 use Rattle.pair_model.proofs.Evidence.WithoutZ.{without-z}
 use Rattle.pair_model.proofs.Evidence.LeakyDealer.{inner-mask-leaks}
 use Rattle.pair_model.proofs.Evidence.Uneven.{uneven-mask}
@@ -30,6 +30,9 @@ use Rattle.pair_model.proofs.Evidence.Uneven.{uneven-mask}
 
 pub bare-key-fails : ¬ Demand3 (bareKey small)
 bare-key-fails d = bare-key (d .privacy)
+
+pub telling-line-fails : ¬ Demand3 (tellingLine small)
+telling-line-fails d = telling-line (d .privacy)
 
 pub without-z-fails : ¬ Demand3 (withoutZ small)
 without-z-fails d = without-z (d .privacy)
@@ -74,11 +77,11 @@ refuses-all-fails d = thirteen (d .correctness (runOf a (zeros 8)) well₁ zero-
 
 -- a unit that waits for an open frame
 abbrev waiting : State
-waiting = state 1 (parameters 0 1) openKind (nothing small)
+waiting = state 1 (parameters 0 1 0) openKind (nothing small)
 
 -- a deal of zeros for it
 abbrev dealOfZeros : Lent
-dealOfZeros = record { frame = 1 ∷ 0 ∷ 1 ∷ 0 ∷ 0 ∷ 0 ∷ zeros 5; files = noFiles; outputLength = 8 }
+dealOfZeros = record { frame = 1 ∷ 0 ∷ 1 ∷ 0 ∷ 0 ∷ 0 ∷ 0 ∷ zeros 5; files = noFiles; outputLength = 9 }
 
 pub second-deal-fails : ¬ Demand3 (secondDeal small)
 unfolding dealAgain step stepConditions readHeader onlyIf first fitTrits every trit bit field takeDeal
@@ -94,7 +97,7 @@ one-zero e = omega arith
 
 -- an empty frame
 abbrev noFrame : Lent
-noFrame = record { frame = []; files = noFiles; outputLength = 8 }
+noFrame = record { frame = []; files = noFiles; outputLength = 9 }
 
 -- the other unit's number for a stray entry that both runs share differs
 pub telling-number-fails : ¬ Demand3 (tellingNumber small)
@@ -111,12 +114,12 @@ pub clearing-refusal-fails : ¬ Demand3 (clearingRefusal small)
 unfolding clearedIfRefused step stepConditions readHeader onlyIf first
 clearing-refusal-fails d =
     zero-one [] [] (ap (λ (u : State). u .secrets .key)
-    (d .threeFrames .refusal (state 1 (parameters 0 1) openKind (halves small (1 ∷ []) (0 ∷ []))) noFrame (λ e. omega (arith, e)) .1))
+    (d .threeFrames .refusal (state 1 (parameters 0 1 0) openKind (halves small (1 ∷ []) (0 ∷ []))) noFrame (λ e. omega (arith, e)) .1))
 
 -- ---- a frame where none is waited for
 
 abbrev at : ℕ → State
-at stage = state 1 (parameters 0 1) stage (nothing small)
+at stage = state 1 (parameters 0 1 0) stage (nothing small)
 
 pub idle-takes-fails : ¬ Demand3 (takesAt small idleStage)
 unfolding takenAt

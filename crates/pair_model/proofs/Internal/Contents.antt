@@ -1,17 +1,20 @@
 -- What a step reads, by the kind of its frame: the lengths' number, and that of the content or of a deal's trits.
-use mathlib.Core.Path.{_≡_, refl, sym, ap, _∙_}
-use mathlib.Core.List.{List, [], _∷_, _++_}
+use mathlib.Core.Path.{_≡_, refl, sym, ap, _∙_, subst}
+use mathlib.Core.List.{List, [], _∷_, _++_, append-nil}
 use mathlib.Core.Bool.{Bool, true, false, cond, not, _&&_}
 use Prim.Native.Nat.{ℕ, _+_, _*_, _/_, min}
 use native.Mathlib.Omega.{arith}
 use borrow.Author.Tests.{eq-eqb, ne-eqb}
-use lib.Dec.{ltb, eqb, lit<}
+use lib.Dec.{T, ltb, eqb, eqb→eq, lit<, lit≤}
 use lib.ListN.{length, take, drop, length-drop}
 use lib.Seq.{length-take-le}
 use Rattle.linear_model.specs.Trits.{fitTrits}
-use Rattle.numbers.specs.Number.{_when_, first, onlyIf}
-use Rattle.numbers.proofs.Numbers.{first-end}
+use Rattle.numbers.specs.Number.{Condition, _when_, first, onlyIf}
+use Rattle.numbers.specs.Lowest.{RisingFrom}
+use Rattle.numbers.proofs.Numbers.{first-end, Positive}
+use Rattle.numbers.proofs.Lowest.{rising-from, UpTo, rising-positive}
 use Rattle.matrix_model.specs.Block.{Layout}
+use Rattle.matrix_model.proofs.Lowest.{faults-rise}
 use Rattle.matrix_model.specs.File.{checkNumberOf}
 use Rattle.pair_model.specs.Scheme.{Files, files, Reading, readsNothing, badLength, faultsIn, readingNumber, Scheme, layoutBytes, field}
 use Rattle.pair_model.specs.Base.{matrixReading, blockFormat}
@@ -95,3 +98,45 @@ module _ (S : Scheme) (f : List ℕ) (lent : Files) where
         pick : (b : Bool) → _≡_ {A = ℕ} (cond b 0 10) (cond (not b) 10 0)
         pick true = refl
         pick false = refl
+
+-- ---- the numbers of what it reads
+
+-- a property of the faults of each reading, at the frame's kind
+of-reading : (S : Scheme) (lent : Files) (Q : List Condition → Type 0) → Q (faultsIn (S .productReading) lent) → Q (faultsIn (S .rowsReading) lent) → Q []
+    → (kind : ℕ) → Q (faultsIn (stepReading S kind) lent)
+of-reading S lent Q product rows none kind = pick (eqb kind maskKind) (eqb kind openKind)
+  where
+    pick : (b c : Bool) → Q (faultsIn (cond b (S .rowsReading) (cond c (S .productReading) readsNothing)) lent)
+    pick true c = rows
+    pick false true = product
+    pick false false = none
+
+-- and of what a step reads, where a deal has none and 10 for its trits
+of-content : (S : Scheme) (lent : Files) (Q : List Condition → Type 0) → Q (faultsIn (S .productReading) lent) → Q (faultsIn (S .rowsReading) lent) → Q []
+    → (f : List ℕ) → ((b : Bool) → Q (10 when b ∷ [])) → Q (contentConditions S f lent)
+unfolding onlyIf
+of-content S lent Q product rows none f trits = pick (eqb (kindOf f) dealKind) (eqb→eq (kindOf f) dealKind)
+  where
+    pick : (b : Bool) → (T b → kindOf f ≡ dealKind) → Q (faultsIn (stepReading S (kindOf f)) lent ++ onlyIf b (10 when unfitDeal S f ∷ []))
+    pick true e = rw (e tt) (trits (unfitDeal S f))
+    pick false e = subst Q (sym (append-nil (faultsIn (stepReading S (kindOf f)) lent))) (of-reading S lent Q product rows none (kindOf f))
+
+-- after 7 they rise
+pub content-rises : (S : Scheme) (lent : Files) → RisingFrom 8 (faultsIn (S .productReading) lent) → RisingFrom 8 (faultsIn (S .rowsReading) lent)
+    → (f : List ℕ) → RisingFrom 7 (contentConditions S f lent)
+content-rises S lent product rows f =
+    of-content S lent (RisingFrom 7) (rising-from 7 8 (faultsIn (S .productReading) lent) (lit≤ tt) product)
+    (rising-from 7 8 (faultsIn (S .rowsReading) lent) (lit≤ tt) rows) tt f (λ b. (lit≤ tt, tt))
+
+-- up to 12
+pub content-up-to : (S : Scheme) (lent : Files) → UpTo 12 (faultsIn (S .productReading) lent) → UpTo 12 (faultsIn (S .rowsReading) lent)
+    → (f : List ℕ) → UpTo 12 (contentConditions S f lent)
+content-up-to S lent product rows f = of-content S lent (UpTo 12) product rows tt f (λ b. (lit≤ tt, tt))
+
+-- above 0, where the rows are read of a file of any layout
+pub content-positive : (S : Scheme) (layout : Layout) → S .productReading ≡ readsNothing → S .rowsReading ≡ matrixReading (blockFormat layout)
+    → (f : List ℕ) (lent : Files) → Positive (contentConditions S f lent)
+content-positive S layout none rows f lent =
+    rising-positive 7 (contentConditions S f lent) (lit< tt)
+    (content-rises S lent (subst (λ (reading : Reading). RisingFrom 8 (faultsIn reading lent)) (sym none) tt)
+    (subst (λ (reading : Reading). RisingFrom 8 (faultsIn reading lent)) (sym rows) (faults-rise layout (lent .matrix))) f)

@@ -59,7 +59,7 @@ module _ (S : Scheme) (has-room : HasRoom S) (u : State) (h : Sized S u) where
   pub decode-encode : u .set ≡ S .set → decodeAs S (encodeState u) ≡ u
   unfolding decodeAs encodeState stateHeader header
   decode-encode e =
-      λ i. state (sym e i) (parameters (u .parameters .side) (session-back (u .parameters .shared .session) (h .shared .session) i)) (u .stage)
+      λ i. state (sym e i) (parameters (u .parameters .side) (session-back (u .parameters .shared .session) (h .shared .session) i) (u .parameters .shared .line)) (u .stage)
       (record {
         key = part 0 stringRoom (u .secrets .key) refl (h .key) i;
         label = part 1 stringRoom (u .secrets .label) refl (h .label) i;

@@ -1,12 +1,12 @@
 -- The number of a header that was read.
-use mathlib.Core.Path.{_≡_, sym, ap}
+use mathlib.Core.Path.{_≡_, sym}
 use mathlib.Core.List.{List, _∷_}
 use Prim.Native.Nat.{ℕ}
 use native.Mathlib.Omega.{arith}
 use Rattle.numbers.specs.Number.{Condition, _when_, first}
 use Rattle.pair_model.specs.Scheme.{Scheme}
-use Rattle.pair_model.specs.Header.{Header, fields, refusal, headerNumber, refusedWith}
-use Rattle.pair_model.proofs.Theorem.HeaderLaws.{headerRead, Whole, read-whole, Outcome, isWhole, isRefused3, isRefused4, outcome, whole-read}
+use Rattle.pair_model.specs.Header.{Header, refusal, headerNumber, refusedWith}
+use Rattle.pair_model.proofs.Theorem.HeaderLaws.{headerRead, Whole, read-whole, Outcome, isWhole, isRefused3, isRefused4, outcome}
 
 module _ (S : Scheme) (lowest highest : ℕ) (f : List ℕ) where
   abbrev h : Header
@@ -21,10 +21,6 @@ module _ (S : Scheme) (lowest highest : ℕ) (f : List ℕ) where
       pick (isWhole w) = rw (read-whole S lowest highest f w) (sym (none w))
       pick (isRefused3 e) = rw e
       pick (isRefused4 e) = rw e
-
-  -- a frame whose fields were read is whole
-  pub fields-whole : {kind side session body : ℕ} → h ≡ fields kind side session body → Whole S lowest highest f
-  fields-whole e = whole-read S lowest highest f (ap (refusedWith 3) e) (ap (refusedWith 4) e)
 
   -- one that is refused is not
   pub not-whole : {number : ℕ} → h ≡ refusal number → Whole S lowest highest f → ⊥

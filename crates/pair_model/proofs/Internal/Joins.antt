@@ -13,10 +13,10 @@ use Rattle.linear_model.specs.Products.{planeBytes}
 use Rattle.linear_model.proofs.Vectors.{length-packTrits}
 use Rattle.numbers.specs.Number.{Condition, _when_, first, output}
 use Rattle.pair_model.specs.Scheme.{Scheme}
-use Rattle.pair_model.specs.Frame.{shareKind, kindOf, bodyOf, codeBytes, frameBytes, headerBytes}
-use Rattle.pair_model.specs.Header.{Header, headerNumber, refusedWith}
-use Rattle.pair_model.specs.Join.{unfitShare, spareSet, joinConditions, joinNumber, joined}
-use Rattle.numbers.proofs.Numbers.{first-pass, first-holds, first-zero, none-holds, or-left, or-right, is-at-least}
+use Rattle.pair_model.specs.Frame.{shareKind, kindOf, lineOf, bodyOf, codeBytes, frameBytes, headerBytes}
+use Rattle.pair_model.specs.Header.{Header, headerNumber, refusedWith, lineConditions}
+use Rattle.pair_model.specs.Join.{unfitShare, spareSet, joinHeaderConditions, shareConditions, joinConditions, joinNumber, joined}
+use Rattle.numbers.proofs.Numbers.{first-pass, first-holds, first-zero, first-before, first-after, none-holds, or-left, or-right, is-at-least}
 use Rattle.pair_model.proofs.Theorem.HeaderLaws.{headerRead, Whole, whole-read}
 use Rattle.pair_model.proofs.Internal.Headers.{header-number}
 
@@ -93,12 +93,8 @@ module _ (S : Scheme) (f g : List ℕ) where
     whole-read S shareKind shareKind g (or-right (refusedWith 3 (shareRead S f)) _ a) (or-right (refusedWith 4 (shareRead S f)) _ b),
   )
 
-  -- the conditions of both shares
-  abbrev shares : List Condition
-  shares = 10 when (unfitShare S f || unfitShare S g) ∷ 11 when (spareSet S f || spareSet S g) ∷ []
-
-  -- which the code judges one by one
-  pub share-numbers : length f ≡ frameBytes S shareKind → length g ≡ frameBytes S shareKind → lowerOf (numberOf S (take (codeBytes S) (drop headerBytes f))) (numberOf S (take (codeBytes S) (drop headerBytes g))) ≡ first shares
+  -- the conditions of both shares are judged one by one
+  pub share-numbers : length f ≡ frameBytes S shareKind → length g ≡ frameBytes S shareKind → lowerOf (numberOf S (take (codeBytes S) (drop headerBytes f))) (numberOf S (take (codeBytes S) (drop headerBytes g))) ≡ first (shareConditions S f g)
   share-numbers p q =
       (λ i. lowerOf (numberOf S (share-body S f p i)) (numberOf S (share-body S g q i)))
       ∙ lower-first 10 11 refl refl refl refl (unfitShare S f) (spareSet S f) (unfitShare S g) (spareSet S g) [] (λ a b. first-zero [] tt)
@@ -117,20 +113,46 @@ module _ (S : Scheme) (f g : List ℕ) where
     pub join-fits : joinNumber S f g n ≡ 0 → Fits
     unfolding joinConditions
     join-fits e =
-        let t = none-holds (joinConditions S f g n) (lit< tt, (lit< tt, (lit< tt, (lit< tt, (lit< tt, (lit< tt, (lit< tt, tt))))))) e in
+        let t = none-holds (joinConditions S f g n) (lit< tt, (lit< tt, (lit< tt, (lit< tt, (lit< tt, (lit< tt, (lit< tt, (lit< tt, tt)))))))) e in
         let w = both-whole (t .1 .0) (t .1 .1 .0) in
         record { first-length = share-long S f (w .0); second-length = share-long S g (w .1); room = is-at-least n (codeBytes S) (t .0) }
 
+    -- with this room the first part that has a number decides
     module _ (h : codeBytes S ≤ n) where
-      -- a header is refused
-      pub join-refused : (Whole S shareKind shareKind f → Whole S shareKind shareKind g → ⊥)
-          → lowerOf (headerNumber (shareRead S f)) (headerNumber (shareRead S g)) ≡ joinNumber S f g n
+      abbrev lines : List Condition
+      lines = lineConditions (lineOf g) f
+
+      after-room : joinNumber S f g n ≡ first (joinHeaderConditions S f g ++ shareConditions S f g ++ lines)
       unfolding joinConditions
-      join-refused x =
-          (λ i. lowerOf (header-number S shareKind shareKind f [] (λ w. first-zero [] tt) i) (header-number S shareKind shareKind g [] (λ w. first-zero [] tt) i))
-          ∙ lower-first 3 4 refl refl refl refl (refusedWith 3 (shareRead S f)) (refusedWith 4 (shareRead S f)) (refusedWith 3 (shareRead S g)) (refusedWith 4 (shareRead S g)) _
-          (λ a b. let w = both-whole a b in absurd (x (w .0) (w .1)))
-          ∙ sym (first-pass 1 (ltb n (codeBytes S)) _ (le-ltb n (codeBytes S) h))
+      after-room = first-pass 1 (ltb n (codeBytes S)) _ (le-ltb n (codeBytes S) h)
+
+      pub number-of-headers : (first (joinHeaderConditions S f g) ≡ 0 → ⊥) → first (joinHeaderConditions S f g) ≡ joinNumber S f g n
+      number-of-headers x = sym (after-room ∙ first-before (joinHeaderConditions S f g) _ x)
+
+      module _ (z : first (joinHeaderConditions S f g) ≡ 0) where
+        after-headers : joinNumber S f g n ≡ first (shareConditions S f g ++ lines)
+        after-headers = after-room ∙ first-after (joinHeaderConditions S f g) _ (lit< tt, (lit< tt, (lit< tt, (lit< tt, tt)))) z
+
+        pub number-of-shares : (first (shareConditions S f g) ≡ 0 → ⊥) → first (shareConditions S f g) ≡ joinNumber S f g n
+        number-of-shares x = sym (after-headers ∙ first-before (shareConditions S f g) lines x)
+
+        pub number-of-lines : first (shareConditions S f g) ≡ 0 → first lines ≡ joinNumber S f g n
+        number-of-lines e = sym (after-headers ∙ first-after (shareConditions S f g) lines (lit< tt, (lit< tt, tt)) e)
+
+  -- a header is refused
+  pub join-refused : (Whole S shareKind shareKind f → Whole S shareKind shareKind g → ⊥)
+      → lowerOf (headerNumber (shareRead S f)) (headerNumber (shareRead S g)) ≡ first (joinHeaderConditions S f g)
+  join-refused x =
+      (λ i. lowerOf (header-number S shareKind shareKind f [] (λ w. first-zero [] tt) i) (header-number S shareKind shareKind g [] (λ w. first-zero [] tt) i))
+      ∙ lower-first 3 4 refl refl refl refl (refusedWith 3 (shareRead S f)) (refusedWith 4 (shareRead S f)) (refusedWith 3 (shareRead S g)) (refusedWith 4 (shareRead S g)) _
+      (λ a b. let w = both-whole a b in absurd (x (w .0) (w .1)))
+
+  -- where none is, both frames have the length of their kind
+  pub headers-long : first (joinHeaderConditions S f g) ≡ 0 → (length f ≡ frameBytes S shareKind) × (length g ≡ frameBytes S shareKind)
+  headers-long e =
+      let t = none-holds (joinHeaderConditions S f g) (lit< tt, (lit< tt, (lit< tt, (lit< tt, tt)))) e in
+      let w = both-whole (t .0) (t .1 .0) in
+      (share-long S f (w .0), share-long S g (w .1))
 
 -- the code, over the front of d, which has the n bytes of a code
 pub join-written : (S : Scheme) (f g d o : List ℕ) {n : ℕ} → n ≡ codeBytes S → length f ≡ frameBytes S shareKind → length g ≡ frameBytes S shareKind → codeBytes S ≤ length d

@@ -29,9 +29,9 @@ use Rattle.pair_model.proofs.Internal.Encodings.{HasRoom, laid-secrets,
 
 -- ---- frames and slices
 
-bytes-header : (kind : ℕ) (t : Parameters) → kind < 256 → t .side < 256 → Bytes headerBytes (header kind t)
+bytes-header : (kind : ℕ) (t : Parameters) → kind < 256 → t .side < 256 → FitsHeader (t .shared) → Bytes headerBytes (header kind t)
 unfolding header
-bytes-header kind t hk hs = record { size = refl; small = small }
+bytes-header kind t hk hs ht = record { size = refl; small = small }
   where
     small : AreBytes (header kind t)
     small zero = hk
@@ -40,18 +40,19 @@ bytes-header kind t hk hs = record { size = refl; small = small }
     small (suc (suc (suc zero))) = omega arith
     small (suc (suc (suc (suc zero)))) = omega arith
     small (suc (suc (suc (suc (suc zero))))) = omega arith
-    small (suc (suc (suc (suc (suc (suc i)))))) = lit< tt
+    small (suc (suc (suc (suc (suc (suc zero)))))) = ht .line
+    small (suc (suc (suc (suc (suc (suc (suc i))))))) = lit< tt
 
-pub bytes-frame : (kind : ℕ) (t : Parameters) {n : ℕ} {body : List ℕ} → kind < 256 → t .side < 256 → Bytes n body → Bytes (headerBytes + n) (frame kind t body)
+pub bytes-frame : (kind : ℕ) (t : Parameters) {n : ℕ} {body : List ℕ} → kind < 256 → t .side < 256 → FitsHeader (t .shared) → Bytes n body → Bytes (headerBytes + n) (frame kind t body)
 unfolding frame
-bytes-frame kind t hk hs h = bytes-append (bytes-header kind t hk hs) h
+bytes-frame kind t hk hs ht h = bytes-append (bytes-header kind t hk hs ht) h
 
 module _ (S : Scheme) (has-room : HasRoom S) where
   -- the bytes of a state that a slice can hold
   bytes-of-state : (u : State) → u .set < 256 → Sized S u → Bytes stateBytes (encodeState u)
   unfolding encodeState stateHeader
   bytes-of-state u l h =
-      bytes-append (bytes-append (bytes-header (u .stage) (u .parameters) (h .stage) (h .side)) (bytes-one (u .set) l))
+      bytes-append (bytes-append (bytes-header (u .stage) (u .parameters) (h .stage) (h .side) (h .shared)) (bytes-one (u .set) l))
       (bytes-concat rooms (inRooms (u .secrets)) (laid-secrets S has-room u h))
 
   -- a slice can hold the state that its bytes decode to
@@ -61,7 +62,7 @@ module _ (S : Scheme) (has-room : HasRoom S) where
       record {
         stage = h .small 0;
         side = h .small 1;
-        shared = record { session = omega (arith, h .small 2, h .small 3, h .small 4, h .small 5) };
+        shared = record { session = omega (arith, h .small 2, h .small 3, h .small 4, h .small 5); line = h .small 6 };
         key = front (cut .0) (has-room .key);
         label = front (cut .1 .0) (has-room .key);
         keyMask = front (cut .1 .1 .0) (has-room .key);
@@ -138,7 +139,7 @@ module _ (S : Scheme) where
               };
           kept = refl;
           written =
-              bytes-frame openKind (u .parameters) (lit< tt) (h .side)
+              bytes-frame openKind (u .parameters) (lit< tt) (h .side) (h .shared)
               (bytes-concat (openLayout S) (half (u .secrets .key) 0 ∷ half (u .secrets .label) 1 ∷ []) (bytes-add n _ _, (bytes-add n _ _, tt))) .small;
         }
       where
@@ -169,7 +170,7 @@ module _ (S : Scheme) where
                 ownMask = bytes-mask-of S lent _ _ _ _ _ _;
               };
           kept = refl;
-          written = bytes-frame maskKind (u .parameters) (lit< tt) (h .side) (bytes-mask-of S lent _ _ _ _ _ _) .small;
+          written = bytes-frame maskKind (u .parameters) (lit< tt) (h .side) (h .shared) (bytes-mask-of S lent _ _ _ _ _ _) .small;
         }
 
     held-mask : Held (u .set) (takeMask S u body lent)
@@ -178,7 +179,7 @@ module _ (S : Scheme) where
         record {
           next = sized-cleared (u .set) (u .parameters) 4 (lit< tt) (h .side) (h .shared);
           kept = refl;
-          written = bytes-frame shareKind (u .parameters) (lit< tt) (h .side) (bytes-code S lent _) .small;
+          written = bytes-frame shareKind (u .parameters) (lit< tt) (h .side) (h .shared) (bytes-code S lent _) .small;
         }
 
     held-advance : (u .stage ≡ dealKind → Bytes (layoutBytes (dealLayout S)) body) → Held (u .set) (advance S u body lent)
@@ -229,7 +230,7 @@ sized-decoded s h =
 
 -- the idle state is one
 sized-idle : SizedState idle
-sized-idle = record { set = refl; sized = sized-cleared base 1 (parameters 0 0) 0 (lit< tt) (lit< tt) (record { session = lit< tt }) }
+sized-idle = record { set = refl; sized = sized-cleared base 1 (parameters 0 0 0) 0 (lit< tt) (lit< tt) (record { session = lit< tt; line = lit< tt }) }
 
 -- and what a beginning gives, of halves that are bytes, refused or not
 pub sized-begin : (set : ℕ) (t : Parameters) (key label : List ℕ) → FitsHeader (t .shared) → AreBytes key → AreBytes label

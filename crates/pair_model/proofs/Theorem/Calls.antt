@@ -109,7 +109,7 @@ module _ (set : ℕ) (is : isSet set ≡ true) (run : Run) (well : WellFormed (s
 
   bytes-dealt : (i : Side) → AreBytes (dealFrame S (run .inputs .shared) (run .inputs .files) (run .tape) i)
   unfolding dealFrame
-  bytes-dealt i = bytes-frame dealKind (parametersAt S (run .inputs) (run .tape) i) (lit< tt) (low i) (bytes-deal S (run .inputs .files) (run .tape) tape i) .small
+  bytes-dealt i = bytes-frame dealKind (parametersAt S (run .inputs) (run .tape) i) (lit< tt) (low i) (well .shared) (bytes-deal S (run .inputs .files) (run .tape) tape i) .small
     where
       low : (i : Side) → sideByte i < 256
       low side0 = lit< tt

@@ -7,7 +7,7 @@ use native.Mathlib.Omega.{arith}
 use lib.Dec.{T, ltb, eqb}
 use lib.ListN.{length}
 use Rattle.pair_model.specs.Scheme.{Scheme}
-use Rattle.pair_model.specs.Frame.{headerBytes, kindOf, sideOf, sessionOf, frameBytes}
+use Rattle.pair_model.specs.Frame.{headerBytes, kindOf, sideOf, sessionOf, lineOf, frameBytes}
 use Rattle.pair_model.specs.Header.{Header, fields, refusal, readHeader, refusedWith}
 use Rattle.numbers.proofs.Numbers.{equal, at-least, is-equal, is-at-least}
 
@@ -23,7 +23,7 @@ module _ (S : Scheme) (lowest highest : ℕ) (f : List ℕ) where
     pub long : length f ≡ frameBytes S (kindOf f)
 
   -- it is read to its fields
-  pub read-whole : Whole → headerRead ≡ fields (kindOf f) (sideOf f) (sessionOf f) (length f - headerBytes)
+  pub read-whole : Whole → headerRead ≡ fields (kindOf f) (sideOf f) (sessionOf f) (lineOf f) (length f - headerBytes)
   unfolding readHeader
   read-whole w =
       simp (

@@ -14,7 +14,7 @@ use Rattle.linear_model.proofs.Tables.{every-of}
 use Rattle.linear_model.proofs.Linearity.{trit-matrix, bytes-matrix, fit-matrix}
 use Rattle.numbers.specs.Number.{first}
 use Rattle.pair_model.specs.Scheme.{Files, Scheme, rowsWith, Linear, Side, side0, side1, total}
-use Rattle.pair_model.specs.Frame.{shareKind, header, frame, headerBytes, sideOf, sessionOf, codeBytes}
+use Rattle.pair_model.specs.Frame.{shareKind, header, frame, headerBytes, sideOf, sessionOf, lineOf, codeBytes}
 use Rattle.pair_model.specs.Header.{fields}
 use Rattle.pair_model.specs.Evaluator.{codeOf, code}
 use Rattle.pair_model.specs.Unit.{shareOf}
@@ -72,7 +72,7 @@ module _ (S : Scheme) (a : Inputs) (tape : List ℕ) where
   spare-share i = is-true (zeroTrits (planeBytes (S .digits)) (S .digits) (share S a tape i)) (spare-code S (a .files) _)
 
   -- it is read
-  reads : (i : Side) → let f = shareFrameOf i in headerRead S shareKind shareKind f ≡ fields shareKind (sideOf f) (sessionOf f) (length f - headerBytes)
+  reads : (i : Side) → let f = shareFrameOf i in headerRead S shareKind shareKind f ≡ fields shareKind (sideOf f) (sessionOf f) (lineOf f) (length f - headerBytes)
   unfolding frame header
   reads i = read-whole S shareKind shareKind (shareFrameOf i) (record { low = lit≤ tt; high = lit≤ tt; long = omega (arith, bytes-share i .size) })
 
@@ -89,6 +89,7 @@ module _ (S : Scheme) (a : Inputs) (tape : List ℕ) where
         fit-share side1,
         spare-share side0,
         spare-share side1,
+        equal (lineOf (shareFrameOf side0)) (lineOf (shareFrameOf side1)) refl,
       )
 
   -- and gives the code

@@ -10,9 +10,9 @@ use lib.ListN.{length}
 use Rattle.numbers.specs.Number.{_when_, first}
 use Rattle.pair_model.specs.Scheme.{Files, Reading, badLength, faultsIn, readingNumber, Scheme}
 use Rattle.pair_model.specs.Frame.{Parameters, FitsHeader, dealKind, maskKind, header, frame, kindOf, sessionOf, bodyOf, bodyBytes, frameBytes}
-use Rattle.pair_model.specs.Header.{kindRead}
+use Rattle.pair_model.specs.Header.{kindRead, lineConditions}
 use Rattle.pair_model.specs.Unit.{State, refused, expectedSide, stepReading, leastOutput, lengthConditions, headerConditions, contentConditions, stepConditions, stepNumber, takeDeal, takeOpen, takeMask, advance, step}
-use Rattle.numbers.proofs.Numbers.{equal, at-least, is-equal, is-at-least, first-none, none-before}
+use Rattle.numbers.proofs.Numbers.{equal, at-least, is-equal, is-at-least, first-none, first-both, none-before}
 use Rattle.pair_model.proofs.Theorem.HeaderLaws.{headerRead, read-whole, whole-read}
 
 -- the four bytes of a session read back
@@ -63,7 +63,7 @@ module _ (S : Scheme) (t : Parameters) (kind : ℕ) (body : List ℕ) (lent : Fi
         equal (expectedSide kind (t .side)) (expectedSide kind (t .side)) refl,
         equal kind kind refl,
       )
-      last
+      (first-both (contentConditions S expected lent) (lineConditions (t .shared .line) expected) last (rw (equal (t .shared .line) (t .shared .line) refl)))
 
 -- ---- a frame that is accepted
 
@@ -80,7 +80,7 @@ module _ (S : Scheme) (t : Parameters) (stage : ℕ) (f : List ℕ) (lent : File
   unfolding stepConditions
   fits e =
       let n =
-      none-before (lengthConditions S f lent outputLength ++ headerConditions S t stage f) (contentConditions S f lent)
+      none-before (lengthConditions S f lent outputLength ++ headerConditions S t stage f) (contentConditions S f lent ++ lineConditions (t .shared .line) f)
       (lit< tt, (lit< tt, (lit< tt, (lit< tt, (lit< tt, (lit< tt, (lit< tt, tt))))))) e in
       let h = n .1 .1 in
       let w = whole-read S dealKind maskKind f (h .0) (h .1 .0) in

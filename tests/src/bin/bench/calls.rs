@@ -4,13 +4,14 @@ use crate::interface;
 use crate::timing::{kept, shared, Table};
 use service_pair_tests::fast::{dealer, evaluator, join, matrix, run, sampler, unit};
 use service_pair_tests::random::Random;
+use service_pair_tests::reference::frame::Shared;
 use service_pair_tests::reference::program::Inputs;
 use service_pair_tests::reference::shape::{Shape, SETS, SET_1};
 use service_pair_tests::samples::fit_inputs;
 use service_pair_tests::state_layout::{STAGE_AT, STATE_BYTES};
 use std::hint::black_box;
 
-const SESSION: u32 = 0x0102_0304;
+const SHARED: Shared = Shared { session: 0x0102_0304, line: 1 };
 
 type State = [u8; STATE_BYTES];
 
@@ -33,8 +34,8 @@ impl Run {
         let mut run = Run { shape, inputs, states, frames: Default::default() };
         let (set, tape) = (shape.set, &run.inputs.tape);
         let dealt = same("deal", vec![0; shape.dealt_bytes()], |ours, out| match ours {
-            true => interface::deal(set, SESSION, tape, out),
-            false => dealer::deal(set, SESSION, tape, out),
+            true => interface::deal(set, SHARED, tape, out),
+            false => dealer::deal(set, SHARED, tape, out),
         });
         for (side, deal) in dealt.chunks(shape.deal_bytes()).enumerate() {
             run.frames[side][0] = deal.to_vec();
@@ -52,8 +53,8 @@ impl Run {
         let (key, label) = (&self.inputs.key_halves[side], &self.inputs.label_halves[side]);
         let (set, side) = (self.shape.set, side as u32);
         let begun = same("beginning", vec![0xa5; STATE_BYTES], |ours, state| match ours {
-            true => interface::begin(set, side, SESSION, key, label, state),
-            false => unit::begin(set, side, SESSION, key, label, state),
+            true => interface::begin(set, side, SHARED, key, label, state),
+            false => unit::begin(set, side, SHARED, key, label, state),
         });
         begun.try_into().expect("a state's bytes")
     }
@@ -142,8 +143,8 @@ fn dealing(run: &'static Run, table: &mut Table) {
     let [mut out, mut other] = [0; 2].map(|_| vec![0; run.shape.dealt_bytes()]);
     table.compare(
         &run.row("pair_deal"),
-        move || kept(interface::deal(set, SESSION, black_box(tape), black_box(&mut out))),
-        move || kept(dealer::deal(set, SESSION, black_box(tape), black_box(&mut other))),
+        move || kept(interface::deal(set, SHARED, black_box(tape), black_box(&mut out))),
+        move || kept(dealer::deal(set, SHARED, black_box(tape), black_box(&mut other))),
     );
 }
 
@@ -161,8 +162,8 @@ fn dealing_from(run: &'static Run, source: &'static [u8], start: u64, table: &mu
     let (set, mut places) = (run.shape.set, [0; 2]);
     let before = vec![0; run.shape.dealt_bytes()];
     let mut out = same("dealer of a source", before, |ours, out| match ours {
-        true => interface::deal_source(set, SESSION, start, source, out, &mut places[0]),
-        false => dealer::deal_source(set, SESSION, start, source, out, &mut places[1]),
+        true => interface::deal_source(set, SHARED, start, source, out, &mut places[0]),
+        false => dealer::deal_source(set, SHARED, start, source, out, &mut places[1]),
     });
     assert_eq!(places[0], places[1], "dealer of a source: the places differ");
     let (mut other, [mut next, mut other_next]) = (out.clone(), places);
@@ -170,11 +171,11 @@ fn dealing_from(run: &'static Run, source: &'static [u8], start: u64, table: &mu
         &run.row(&format!("pair_deal_source, {} bytes, start {start}", source.len())),
         move || {
             let source = black_box(source);
-            kept(interface::deal_source(set, SESSION, start, source, &mut out, &mut next))
+            kept(interface::deal_source(set, SHARED, start, source, &mut out, &mut next))
         },
         move || {
             let source = black_box(source);
-            kept(dealer::deal_source(set, SESSION, start, source, &mut other, &mut other_next))
+            kept(dealer::deal_source(set, SHARED, start, source, &mut other, &mut other_next))
         },
     );
 }
@@ -207,11 +208,11 @@ fn beginning(run: &'static Run, table: &mut Table) {
         &run.row("pair_begin"),
         move || {
             let (key, state) = (black_box(key), black_box(&mut state));
-            kept(interface::begin(set, 0, SESSION, key, label, state))
+            kept(interface::begin(set, 0, SHARED, key, label, state))
         },
         move || {
             let (key, state) = (black_box(key), black_box(&mut other));
-            kept(unit::begin(set, 0, SESSION, key, label, state))
+            kept(unit::begin(set, 0, SHARED, key, label, state))
         },
     );
 }

@@ -55,7 +55,7 @@ written kind n end t d o head body w e h l room is ew =
     ∙ (λ i. (h i ++ append-nil body i) ++ drop (headerBytes + sym l i) d)
     ∙ ap (λ (k : ℕ). frame kind t body ++ drop k d) (sym (length-frame kind t body))
 
--- the part behind a header of six bytes
+-- the part behind a header
 behind : (n end : ℕ) (t : Parameters) (d o head : List ℕ) (kind : ℕ) → end ≡ headerBytes + n → head ≡ header kind t → headerBytes + n ≤ length d → o ≡ pasted 0 head d → length (take (end - headerBytes) (drop headerBytes o)) ≡ n
 behind n end t d o head kind e h room is =
     ap (λ (k : ℕ). length (take (k - headerBytes) (drop headerBytes o))) e

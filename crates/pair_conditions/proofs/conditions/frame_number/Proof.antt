@@ -19,7 +19,7 @@ returns c =
 -- the fields that were read
 read : (c : tie.After-h)
     → readHeader (schemeIn (c .before .before .before .before .args .sizes)) dealKind maskKind (c .before .before .before .before .args .f .now)
-    ≡ fields (c .h .given .0 .0) (c .h .given .0 .1 .0) (c .h .given .0 .1 .1 .0) (c .h .given .0 .1 .1 .1 .0)
+    ≡ fields (c .h .given .0 .0) (c .h .given .0 .1 .0) (c .h .given .0 .1 .1 .0) (c .h .given .0 .1 .1 .1 .0) (c .h .given .0 .1 .1 .1 .1 .0)
 read c = sym (c .before .before .read-header .ensures) ∙ ap headerOf (c .h .given .1)
 
 returns-2 : tie.Need-returns-2

@@ -1,10 +1,11 @@
 -- `pair_conditions::conditions::step_number` meets its contract: the first part that has a number decides.
-use mathlib.Core.Path.{sym, _∙_}
+use mathlib.Core.Path.{refl, sym, _∙_}
 use borrow.Author.Needs.{needs}
 use Rattle.pair_frames.specs.Headers.{parametersIn}
-use Rattle.pair_frames.specs.Schemes.{schemeIn}
+use Rattle.pair_frames.specs.Schemes.{fileLayout, schemeIn}
 use Rattle.pair_model.specs.Scheme.{files}
-use Rattle.pair_model.proofs.Internal.StepNumbers.{number-of-lengths, number-of-headers, number-of-content, rows-long, frame-long}
+use Rattle.pair_model.proofs.Internal.StepNumbers.{number-of-lengths, number-of-headers, number-of-content, number-of-line, rows-long, frame-long, frame-headed}
+use Rattle.pair_model.proofs.Internal.Contents.{content-positive}
 use Rattle.pair_conditions.proofs.conditions.step_number.Statement.{statement}
 use Rattle.pair_conditions.proofs.conditions.step_number.Tie as tie
 
@@ -33,10 +34,29 @@ content-number-requires c κs =
 
 returns-3 : tie.Need-returns-3
 returns-3 c =
-    let g = c .before in
+    let n = c .before .content-number in
+    let g = c .before .before in
     let l = g .before .before in
-    c .content-number .ensures
-    ∙ number-of-content (schemeIn (c .before .before .before .before .before .before .before .args .sizes)) _ _ _ _ _ (sym (l .before .length-number .ensures) ∙ l .if1 .left) (sym (g .before .frame-number .ensures) ∙ g .if2 .left)
+    n .ensures
+    ∙ number-of-content (schemeIn (l .before .before .before .before .args .sizes)) _ _ _ _ _ (sym (l .before .length-number .ensures) ∙ l .if1 .left) (sym (g .before .frame-number .ensures) ∙ g .if2 .left)
+    (λ e. c .if3 .taken (n .ensures ∙ e))
+
+line-number-requires : tie.Need-line-number-requires
+line-number-requires c κs =
+    let g = c .before .before in
+    let a = g .before .before .before .before .before .before .args in
+    frame-headed (schemeIn (a .sizes)) (parametersIn (a .parameters)) (a .stage) (a .f .now) (files (a .file .now)) (a .room) (sym (g .before .frame-number .ensures) ∙ g .if2 .left)
+
+returns-4 : tie.Need-returns-4
+returns-4 c =
+    let n = c .before .before .content-number in
+    let g = c .before .before .before in
+    let l = g .before .before in
+    let a = l .before .before .before .before .args in
+    c .line-number .ensures
+    ∙ number-of-line (schemeIn (a .sizes)) (parametersIn (a .parameters)) _ _ _ _ (sym (l .before .length-number .ensures) ∙ l .if1 .left) (sym (g .before .frame-number .ensures) ∙ g .if2 .left)
+    (content-positive (schemeIn (a .sizes)) (fileLayout (a .sizes)) refl refl (a .f .now) (files (a .file .now)))
+    (sym (n .ensures) ∙ c .before .if3 .left)
 
 pub step-number-spec : {M : Type 1} → statement M
 step-number-spec =
@@ -47,4 +67,6 @@ step-number-spec =
     (λ c κs. search needs)
     returns-2
     content-number-requires
-    returns-3)
+    returns-3
+    line-number-requires
+    returns-4)

@@ -1,121 +1,80 @@
--- `pair_counter::join::join_number` meets its contract: its tests are those of the headers that were read.
-use mathlib.Core.Path.{_≡_, sym, ap, subst, _∙_}
-use mathlib.Core.List.{List}
+-- `pair_counter::join::join_number` meets its contract: the first part that has a number decides.
+use mathlib.Core.Path.{_≡_, sym, subst, _∙_}
 use Prim.Native.Nat.{ℕ, _<_, _≤_}
+use native.Mathlib.Omega.{arith}
 use borrow.Author.Needs.{needs}
-use borrow.Author.Tests.{le-ltb, eq-eqb, ne-eqb}
 use lib.ListN.{length}
 use Rattle.numbers.specs.Number.{first}
-use Rattle.pair_frames.specs.Headers.{headerOf}
 use Rattle.pair_frames.specs.Schemes.{schemeIn}
-use Rattle.pair_model.specs.Scheme.{Scheme}
 use Rattle.pair_model.specs.Frame.{shareKind, codeBytes, frameBytes}
-use Rattle.pair_model.specs.Header.{fields, headerNumber}
-use Rattle.pair_model.specs.Join.{joinConditions}
-use Rattle.pair_model.proofs.Internal.Headers.{fields-whole, not-whole}
-use Rattle.pair_model.proofs.Internal.Joins.{shareRead, share-long, lowerOf, join-room, join-refused, share-numbers}
+use Rattle.pair_model.specs.Join.{joinHeaderConditions, shareConditions}
+use Rattle.pair_model.specs.Header.{lineConditions}
+use Rattle.pair_model.proofs.Internal.Joins.{lowerOf, join-room, headers-long, share-numbers, number-of-headers, number-of-shares, number-of-lines}
 use Rattle.pair_counter.proofs.join.join_number.Statement.{statement}
 use Rattle.pair_counter.proofs.join.join_number.Tie as tie
-
--- the lower of both refusals
-lowest : (c : tie.After-lower)
-    → c .lower .result ≡ lowerOf (headerNumber (shareRead (schemeIn (c .before .before .before .before .before .before .before .before .before .args .sizes)) (c .before .before .before .before .before .before .before .before .before .args .f .now)))
-    (headerNumber (shareRead (schemeIn (c .before .before .before .before .before .before .before .before .before .args .sizes)) (c .before .before .before .before .before .before .before .before .before .args .g .now)))
-lowest c =
-    let h = c .before .before in
-    let r = h .before .before in
-    c .lower .ensures
-    ∙ (λ i. lowerOf ((h .header-number .ensures ∙ ap headerNumber (r .read-header .ensures)) i) ((c .before .header-number2 .ensures ∙ ap headerNumber (h .before .read-header2 .ensures)) i))
-
--- the fields of the first frame, and of the second, where both have been read
-first-read : (c : tie.After-p)
-    → shareRead (schemeIn (c .before .before .before .before .before .before .before .before .before .before .before .args .sizes)) (c .before .before .before .before .before .before .before .before .before .before .before .args .f .now)
-    ≡ fields (c .p .given .0 .0) (c .p .given .0 .1 .0) (c .p .given .0 .1 .1 .0) (c .p .given .0 .1 .1 .1 .0)
-first-read c = sym (c .before .before .before .before .before .before .read-header .ensures) ∙ ap headerOf (c .p .given .1)
-
-second-read : (c : tie.After-q)
-    → shareRead (schemeIn (c .before .before .before .before .before .before .before .before .before .before .before .before .before .before .args .sizes)) (c .before .before .before .before .before .before .before .before .before .before .before .before .before .before .args .g .now)
-    ≡ fields (c .q .given .0 .0) (c .q .given .0 .1 .0) (c .q .given .0 .1 .1 .0) (c .q .given .0 .1 .1 .1 .0)
-second-read c = sym (c .before .before .before .before .before .before .before .before .read-header2 .ensures) ∙ ap headerOf (c .q .given .1)
-
--- there is room for a code
-room : (c : tie.After-read-header) → codeBytes (schemeIn (c .before .before .before .before .before .args .sizes)) ≤ c .before .before .before .before .before .args .room
-room c = subst (λ (n : ℕ). n ≤ c .before .before .before .before .before .args .room) (c .before .before .code-bytes .ensures) (c .before .if1 .left)
 
 returns : tie.Need-returns
 returns c =
     let a = c .before .before .before .before .args in
     join-room (schemeIn (a .sizes)) _ _ _ (subst (λ (n : ℕ). a .room < n) (c .before .code-bytes .ensures) (c .if1 .taken))
 
+-- there is room for a code
+room : (c : tie.After-headers-number) → codeBytes (schemeIn (c .before .before .before .before .before .args .sizes)) ≤ c .before .before .before .before .before .args .room
+room c = subst (λ (n : ℕ). n ≤ c .before .before .before .before .before .args .room) (c .before .before .code-bytes .ensures) (c .before .if1 .left)
+
 returns-2 : tie.Need-returns-2
 returns-2 c =
-    let l = c .before .before in
-    let h = l .before .before .before .before in
-    let S = schemeIn (h .before .before .before .before .before .args .sizes) in
-    lowest l
-    ∙ join-refused S _ _ _ (room h)
-    (λ w v. not-whole S shareKind shareKind _ (sym (h .read-header .ensures) ∙ ap headerOf (c .enum-told .given .1)) w)
+    let n = c .before .headers-number in
+    n .ensures ∙ number-of-headers (schemeIn (c .before .before .before .before .before .before .args .sizes)) _ _ _ (room (c .before)) (λ e. c .if2 .taken (n .ensures ∙ e))
 
-returns-3 : tie.Need-returns-3
-returns-3 c =
-    let l = c .before .before .before .before .before in
-    let h = l .before .before .before in
-    let S = schemeIn (h .before .before .before .before .before .before .args .sizes) in
-    lowest l
-    ∙ join-refused S _ _ _ (room (h .before))
-    (λ w v. not-whole S shareKind shareKind _ (sym (h .read-header2 .ensures) ∙ ap headerOf (c .enum-told2 .given .1)) v)
-
-returns-4 : tie.Need-returns-4
-unfolding first joinConditions
-returns-4 c =
-    let q = c .before .before in
-    let p = q .before .before .before in
-    simp (le-ltb _ _ (room (p .before .before .before .before .before .before)), first-read p, second-read q, ne-eqb _ _ (c .if2 .taken))
-
-returns-5 : tie.Need-returns-5
-unfolding first joinConditions
-returns-5 c =
-    let i = c .before in
-    let q = i .before .before in
-    let p = q .before .before .before in
-    simp (le-ltb _ _ (room (p .before .before .before .before .before .before)), first-read p, second-read q, eq-eqb _ _ (i .if2 .left), ne-eqb _ _ (c .if3 .taken))
-
-returns-6 : tie.Need-returns-6
-unfolding first joinConditions
-returns-6 c =
-    let i = c .before .before in
-    let q = i .before .before in
-    let p = q .before .before .before in
-    simp (le-ltb _ _ (room (p .before .before .before .before .before .before)), first-read p, second-read q, eq-eqb _ _ (i .if2 .left), eq-eqb _ _ (c .before .if3 .left), ne-eqb _ _ (c .if4 .taken))
-
--- a frame whose fields were read has its kind's length
-long : (S : Scheme) (f : List ℕ) {kind side session body : ℕ} → shareRead S f ≡ fields kind side session body → length f ≡ frameBytes S shareKind
-long S f e = share-long S f (fields-whole S shareKind shareKind f e)
+-- both headers fit
+headed : (c : tie.After-lower) → let a = c .before .before .before .before .before .before .before .before .before .args in
+    first (joinHeaderConditions (schemeIn (a .sizes)) (a .f .now) (a .g .now)) ≡ 0
+headed c = let i = c .before .before .before in sym (i .before .headers-number .ensures) ∙ i .if2 .left
 
 share-number-requires : tie.Need-share-number-requires
 share-number-requires c κs =
-    let p = c .before .before .before .before .before .before .before in
-    let s = p .before .before .before .before .before .before .before .before .before .before .before in
-    (s .pre, long (schemeIn (s .args .sizes)) (s .args .f .now) (first-read p))
+    let s = c .before .before .before .before .before .before in
+    (s .pre, headers-long (schemeIn (s .args .sizes)) _ _ (sym (c .before .headers-number .ensures) ∙ c .if2 .left) .0)
 
 share-number-requires-2 : tie.Need-share-number-requires-2
 share-number-requires-2 c κs =
-    let q = c .before .before .before .before .before in
-    let s = q .before .before .before .before .before .before .before .before .before .before .before .before .before .before in
-    (s .pre, long (schemeIn (s .args .sizes)) (s .args .g .now) (second-read q))
+    let i = c .before in
+    let s = i .before .before .before .before .before .before in
+    (s .pre, headers-long (schemeIn (s .args .sizes)) _ _ (sym (i .before .headers-number .ensures) ∙ i .if2 .left) .1)
 
-returns-7 : tie.Need-returns-7
-unfolding first joinConditions
-returns-7 c =
-    let j = c .before .before .before in
-    let i = j .before .before in
-    let q = i .before .before in
-    let p = q .before .before .before in
-    let a = p .before .before .before .before .before .before .before .before .before .before .before .args in
-    let S = schemeIn (a .sizes) in
-    c .lower2 .ensures ∙ (λ k. lowerOf (c .before .before .share-number .ensures k) (c .before .share-number2 .ensures k))
-    ∙ share-numbers S (a .f .now) (a .g .now) (long S _ (first-read p)) (long S _ (second-read q))
-    ∙ simp (le-ltb _ _ (room (p .before .before .before .before .before .before)), first-read p, second-read q, eq-eqb _ _ (i .if2 .left), eq-eqb _ _ (j .before .if3 .left), eq-eqb _ _ (j .if4 .left))
+-- so both frames have the length of their kind
+long : (c : tie.After-lower) → let a = c .before .before .before .before .before .before .before .before .before .args in
+    (length (a .f .now) ≡ frameBytes (schemeIn (a .sizes)) shareKind) × (length (a .g .now) ≡ frameBytes (schemeIn (a .sizes)) shareKind)
+long c = headers-long (schemeIn (c .before .before .before .before .before .before .before .before .before .args .sizes)) _ _ (headed c)
+
+-- the number of both shares
+of-shares : (c : tie.After-lower) → let a = c .before .before .before .before .before .before .before .before .before .args in
+    c .lower .result ≡ first (shareConditions (schemeIn (a .sizes)) (a .f .now) (a .g .now))
+of-shares c =
+    let a = c .before .before .before .before .before .before .before .before .before .args in
+    c .lower .ensures ∙ (λ k. lowerOf (c .before .before .share-number .ensures k) (c .before .share-number2 .ensures k))
+    ∙ share-numbers (schemeIn (a .sizes)) (a .f .now) (a .g .now) (long c .0) (long c .1)
+
+returns-3 : tie.Need-returns-3
+returns-3 c =
+    let l = c .before in
+    let h = l .before .before .before .before in
+    of-shares l ∙ number-of-shares (schemeIn (h .before .before .before .before .before .args .sizes)) _ _ _ (room h) (headed l) (λ e. c .if3 .taken (of-shares l ∙ e))
+
+line-of-requires : tie.Need-line-of-requires
+line-of-requires c κs = omega (arith, long (c .before) .0, long (c .before) .1)
+
+line-number-requires : tie.Need-line-number-requires
+line-number-requires c κs = omega (arith, long (c .before .before) .0)
+
+returns-4 : tie.Need-returns-4
+returns-4 c =
+    let l = c .before .before .before in
+    let h = l .before .before .before .before in
+    let a = h .before .before .before .before .before .args in
+    c .line-number .ensures ∙ (λ i. first (lineConditions (c .before .line-of .ensures i) (a .f .now)))
+    ∙ number-of-lines (schemeIn (a .sizes)) (a .f .now) (a .g .now) (a .room) (room h) (headed l) (sym (of-shares l) ∙ c .before .before .if3 .left)
 
 pub join-number-spec : {M : Type 1} → statement M
 join-number-spec =
@@ -124,20 +83,11 @@ join-number-spec =
     (λ c κs. c .before .before .pre)
     returns
     (λ c κs. c .before .before .before .before .pre)
-    (λ c κs. c .before .before .before .before .before .pre)
-    (λ c κs. search needs)
-    (λ c κs. search needs)
-    (λ c κs. search needs)
-    (λ c. search needs)
-    (λ c. search needs)
     returns-2
-    (λ c. search needs)
-    (λ c. search needs)
-    returns-3
-    returns-4
-    returns-5
-    returns-6
     share-number-requires
     share-number-requires-2
     (λ c κs. search needs)
-    returns-7)
+    returns-3
+    line-of-requires
+    line-number-requires
+    returns-4)

@@ -26,7 +26,7 @@ returns c =
     let k = z .before .before in
     let a = k .before .before .before .args in
     let i = sym (k .is-set .ensures) ∙ z .before .if1 .taken in
-    and-theorems (reported-in (a .set) i (named-scheme (a .set) (z .sizes-of .ensures) i) (λ (S : Scheme). dealSourceConditions S noFiles (a .source .now) (a .start) (length (a .out .now))) (λ S. dealt S (sharedParameters (a .session)) noFiles (sampled S (a .source .now) (a .start))) (a .out .now) (λ S. nextPair S (a .source .now) (a .start))
+    and-theorems (reported-in (a .set) i (named-scheme (a .set) (z .sizes-of .ensures) i) (λ (S : Scheme). dealSourceConditions S noFiles (a .source .now) (a .start) (length (a .out .now))) (λ S. dealt S (sharedParameters (a .session) (a .line)) noFiles (sampled S (a .source .now) (a .start))) (a .out .now) (λ S. nextPair S (a .source .now) (a .start))
     (c .before .before .deal-source-sized .ensures))
 
 returns-2 : tie.Need-returns-2

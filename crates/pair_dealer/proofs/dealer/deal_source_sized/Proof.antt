@@ -69,7 +69,7 @@ returns-2 c =
       number ∙ source-number S _ _ _ _ refl tt (omega (arith, c .before .before .before .before .before .before .before .before .before .before .if1 .left)),
       (
         n .1 .0,
-        c .before .before .write-deal .ensures ∙ (λ i. output (sym e i) (dealt S (sharedParameters (a .session)) noFiles (tape i)) (a .out .now)),
+        c .before .before .write-deal .ensures ∙ (λ i. output (sym e i) (dealt S (sharedParameters (a .session) (a .line)) noFiles (tape i)) (a .out .now)),
       ),
     )
 

@@ -1,6 +1,7 @@
 -- `pair_deals::frames::write_deal` meets its contract: the second frame is written behind the first.
 use mathlib.Core.Path.{_∙_}
 use native.Mathlib.Omega.{arith}
+use Rattle.pair_model.specs.Frame.{sharedParameters}
 use Rattle.pair_deals.proofs.Parts.{deal-behind}
 use Rattle.pair_deals.proofs.frames.write_deal.Statement.{statement}
 use Rattle.pair_deals.proofs.frames.write_deal.Tie as tie
@@ -9,7 +10,7 @@ returns : tie.Need-returns
 returns c =
     let s = c .before .before .before .before .before .before .before .before .before .before in
     let a = s .args in
-    deal-behind (a .sizes) (a .tape .now) (a .session) _ (omega arith) (a .out .now) _ _ (s .pre .1) (s .pre .2)
+    deal-behind (a .sizes) (a .tape .now) (sharedParameters (a .session) (a .line)) _ (omega arith) (a .out .now) _ _ (s .pre .1) (s .pre .2)
     (c .before .before .before .before .before .before .write-first .ensures) (c .before .before .write-second .ensures)
 
 pub write-deal-spec : {M : Type 1} → statement M

@@ -2,6 +2,7 @@
 use mathlib.Core.Path.{sym, _∙_}
 use native.Mathlib.Omega.{arith}
 use Rattle.pair_frames.proofs.Parts.{headed}
+use Rattle.pair_model.specs.Frame.{sharedParameters}
 use Rattle.pair_deals.proofs.Parts.{first-frame}
 use Rattle.pair_deals.proofs.frames.write_first.Statement.{statement}
 use Rattle.pair_deals.proofs.frames.write_first.Tie as tie
@@ -47,27 +48,27 @@ returns c =
     let head = one .before .before .before .before in
     let made = head .before .before .before in
     let s = made .before .before .before in
-    first-frame (s .args .sizes) (s .args .tape .now) (s .args .session) (s .args .out .now) _ _ _ _ _ _ (s .pre .0) (s .pre .1)
+    first-frame (s .args .sizes) (s .args .tape .now) (sharedParameters (s .args .session) (s .args .line)) (s .args .out .now) _ _ _ _ _ _ (s .pre .0) (s .pre .1)
     (made .header-bytes .ensures) (head .put .ensures) (one .put-part .ensures .1) (two .put-part2 .ensures .1) (three .put-part3 .ensures .1) (four .put-part4 .ensures .1)
 
 pub write-first-spec : {M : Type 1} → statement M
 write-first-spec =
     tie.close
     (tie.spec
-    (λ c. omega (arith, c .before .before .pre .1, c .before .before .good .1 .1 .1 .0 .0))
-    (λ c. omega (arith, c .before .before .pre .1, c .before .before .good .1 .1 .1 .0 .0))
-    (λ c. omega (arith, c .before .before .pre .1, c .before .before .good .1 .1 .1 .0 .0))
-    (λ c. omega (arith, c .before .before .pre .0, c .before .before .good .1 .1 .0 .0))
-    (λ c. omega (arith, c .before .before .pre .0, c .before .before .good .1 .1 .0 .0))
+    (λ c. omega (arith, c .before .before .pre .1, c .before .before .good .1 .1 .1 .1 .0 .0))
+    (λ c. omega (arith, c .before .before .pre .1, c .before .before .good .1 .1 .1 .1 .0 .0))
+    (λ c. omega (arith, c .before .before .pre .1, c .before .before .good .1 .1 .1 .1 .0 .0))
+    (λ c. omega (arith, c .before .before .pre .0, c .before .before .good .1 .1 .1 .0 .0))
+    (λ c. omega (arith, c .before .before .pre .0, c .before .before .good .1 .1 .1 .0 .0))
     (λ c κs. tt)
     (λ c. sym (headed (c .before .header-bytes .result) _ _ (c .before .header-bytes .ensures)))
     (λ c κs. omega (arith, headed (c .before .before .header-bytes .result) _ _ (c .before .before .header-bytes .ensures), c .before .before .before .before .before .pre .1))
     (λ c κs. let s = c .before .before .before .before .before .before .before .before .before in (omega (arith, s .pre .0), omega (arith, s .pre .1, c .before .before .out .given)))
-    (λ c. let s = c .before .before .before .before .before .before .before .before .before .before .before .before in omega (arith, s .pre .0, s .good .1 .1 .0 .0))
+    (λ c. let s = c .before .before .before .before .before .before .before .before .before .before .before .before in omega (arith, s .pre .0, s .good .1 .1 .1 .0 .0))
     put-part-requires-2
     put-part-requires-3
-    (λ c. let s = c .before .before .before .before .before .before .before .before .before .before .before .before .before .before .before .before .before .before .before .before in omega (arith, s .pre .0, s .good .1 .1 .0 .0))
-    (λ c. let s = c .before .before .before .before .before .before .before .before .before .before .before .before .before .before .before .before .before .before .before .before in omega (arith, s .pre .0, s .good .1 .1 .0 .0))
+    (λ c. let s = c .before .before .before .before .before .before .before .before .before .before .before .before .before .before .before .before .before .before .before .before in omega (arith, s .pre .0, s .good .1 .1 .1 .0 .0))
+    (λ c. let s = c .before .before .before .before .before .before .before .before .before .before .before .before .before .before .before .before .before .before .before .before in omega (arith, s .pre .0, s .good .1 .1 .1 .0 .0))
     put-part-requires-4
     same-length
     returns)

@@ -2,6 +2,7 @@
 use mathlib.Core.Path.{sym, _∙_}
 use native.Mathlib.Omega.{arith}
 use Rattle.pair_frames.proofs.Parts.{headed}
+use Rattle.pair_model.specs.Frame.{sharedParameters}
 use Rattle.pair_deals.proofs.Parts.{second-frame}
 use Rattle.pair_deals.proofs.frames.write_second.Statement.{statement}
 use Rattle.pair_deals.proofs.frames.write_second.Tie as tie
@@ -57,7 +58,7 @@ returns c =
     let head = one .before .before .before .before in
     let made = head .before .before .before in
     let s = made .before .before .before in
-    second-frame (s .args .sizes) (s .args .tape .now) (s .args .session) (s .args .out .now) _ _ _ _ _ _ (s .pre .1) (s .pre .2)
+    second-frame (s .args .sizes) (s .args .tape .now) (sharedParameters (s .args .session) (s .args .line)) (s .args .out .now) _ _ _ _ _ _ (s .pre .1) (s .pre .2)
     (made .header-bytes .ensures) (head .put .ensures) (one .put-part .ensures .1) (two .put-part2 .ensures .1) (z .second-z .ensures) (r .second-r .ensures)
 
 pub write-second-spec : {M : Type 1} → statement M

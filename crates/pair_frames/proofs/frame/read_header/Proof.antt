@@ -34,7 +34,7 @@ returns-4 c =
 returns-5 : tie.Need-returns-5
 unfolding readHeader
 returns-5 c =
-    let t4 = c .before .before in
+    let t4 = c .before .before .before in
     let t3 = t4 .before .before in
     let t2 = t3 .before in
     let t1 = t2 .before .before in
@@ -43,7 +43,8 @@ returns-5 c =
       le-ltb _ _ (t2 .if2 .left),
       le-ltb _ _ (t3 .if3 .left),
       eq-eqb _ _ (t4 .if4 .left ∙ t4 .before .frame-bytes .ensures),
-      c .session-of .ensures,
+      c .before .session-of .ensures,
+      c .line-of .ensures,
     )
 
 pub read-header-spec : {M : Type 1} → statement M
@@ -58,5 +59,6 @@ read-header-spec =
     returns-4
     (λ c. omega (arith, c .before .before .before .before .before .before .if1 .left))
     (λ c κs. c .before .before .before .before .before .before .if1 .left)
-    (λ c. c .before .before .before .before .before .before .before .if1 .left)
+    (λ c κs. c .before .before .before .before .before .before .before .if1 .left)
+    (λ c. c .before .before .before .before .before .before .before .before .if1 .left)
     returns-5)

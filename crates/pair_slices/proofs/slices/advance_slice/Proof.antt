@@ -9,7 +9,7 @@ use Rattle.linear_model.specs.Products.{planeBytes}
 use Rattle.numbers.specs.Number.{atFront}
 use Rattle.pair_frames.specs.Schemes.{schemeIn}
 use Rattle.pair_model.specs.Scheme.{Files, files, noFiles, Scheme}
-use Rattle.pair_model.specs.Frame.{parameters, maskKind, shareKind, kindOf, sideOf, sessionOf, frameBytes, bodyOf}
+use Rattle.pair_model.specs.Frame.{carriedParameters, maskKind, shareKind, kindOf, frameBytes, bodyOf}
 use Rattle.pair_model.specs.Unit.{Stepped, stepNumber, stepReading}
 use Rattle.pair_model.specs.StateSlice.{encodeState, decodeAs}
 use Rattle.pair_model.proofs.Theorem.StepLaws.{Fits, fits}
@@ -19,9 +19,9 @@ use Rattle.pair_slices.proofs.slices.advance_slice.Statement.{statement
 use Rattle.pair_slices.proofs.slices.advance_slice.Tie as tie
 
 -- what is known of a frame that is accepted, by the slice's bytes
-module _ (S : Scheme) (s f : List ℕ) (lent : Files) (n : ℕ) (z : stepNumber S (parameters (sideOf s) (sessionOf s)) (kindOf s) f lent n ≡ 0) where
-  accepted : Fits S (parameters (sideOf s) (sessionOf s)) (kindOf s) f lent n
-  accepted = fits S (parameters (sideOf s) (sessionOf s)) (kindOf s) f lent n z
+module _ (S : Scheme) (s f : List ℕ) (lent : Files) (n : ℕ) (z : stepNumber S (carriedParameters s) (kindOf s) f lent n ≡ 0) where
+  accepted : Fits S (carriedParameters s) (kindOf s) f lent n
+  accepted = fits S (carriedParameters s) (kindOf s) f lent n z
 
   long : (k : ℕ) → kindOf s ≡ k → length f ≡ frameBytes S k
   long k e = accepted .frame-length ∙ ap (frameBytes S) e

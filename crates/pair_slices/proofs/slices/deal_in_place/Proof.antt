@@ -14,7 +14,7 @@ use Rattle.pair_frames.proofs.Fronts.{zeros-room}
 use Rattle.pair_frames.proofs.Parts.{field-part}
 use Rattle.pair_model.specs.Scheme.{Scheme, field, concat}
 use Rattle.pair_model.specs.Tape.{dealLayout}
-use Rattle.pair_model.specs.Frame.{Parameters, parameters, openKind, frame, frameBytes, sideOf, sessionOf, bodyOf, headerBytes}
+use Rattle.pair_model.specs.Frame.{carriedParameters, Parameters, openKind, frame, frameBytes, bodyOf, headerBytes}
 use Rattle.pair_model.specs.Unit.{takeDeal}
 use Rattle.pair_model.specs.StateSlice.{stringRoom, tritsRoom, inRoom, inFront, rooms, roomPlace, stateHeader, stateHeaderBytes, stateBytes, encodeState, decodeAs}
 use Rattle.pair_model.proofs.Internal.Encodings.{HasRoom}
@@ -24,7 +24,7 @@ use Rattle.pair_slices.proofs.Whole.{front-fits, whole}
 use Rattle.pair_slices.proofs.slices.deal_in_place.Statement.{statement}
 use Rattle.pair_slices.proofs.slices.deal_in_place.Tie as tie
 
-module _ (S : Scheme) (has-room : HasRoom S) (s f : List ℕ) (t : Parameters) (is : t ≡ parameters (sideOf s) (sessionOf s)) where
+module _ (S : Scheme) (has-room : HasRoom S) (s f : List ℕ) (t : Parameters) (is : t ≡ carriedParameters s) where
   abbrev n : ℕ
   n = S .keyBytes
 

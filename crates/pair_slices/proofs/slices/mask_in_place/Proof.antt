@@ -11,7 +11,7 @@ use Rattle.linear_model.specs.Bits.{addBits}
 use Rattle.numbers.specs.Number.{atFront}
 use Rattle.pair_frames.specs.Schemes.{schemeIn}
 use Rattle.pair_model.specs.Scheme.{Files, files, Scheme}
-use Rattle.pair_model.specs.Frame.{Parameters, parameters, maskKind, shareKind, frame, frameBytes, sideOf, sessionOf, bodyOf, headerBytes}
+use Rattle.pair_model.specs.Frame.{carriedParameters, Parameters, maskKind, shareKind, frame, frameBytes, bodyOf, headerBytes}
 use Rattle.pair_model.specs.Unit.{done, shareOf, takeMask}
 use Rattle.pair_model.specs.StateSlice.{inFront, encodeState, decodeAs}
 use Rattle.pair_rooms.proofs.InTurn.{part-at, has-room-in}
@@ -19,7 +19,7 @@ use Rattle.pair_states.proofs.Blank.{encode-nothing}
 use Rattle.pair_slices.proofs.slices.mask_in_place.Statement.{statement}
 use Rattle.pair_slices.proofs.slices.mask_in_place.Tie as tie
 
-module _ (S : Scheme) (s f : List ℕ) (lent : Files) (t : Parameters) (is : t ≡ parameters (sideOf s) (sessionOf s)) where
+module _ (S : Scheme) (s f : List ℕ) (lent : Files) (t : Parameters) (is : t ≡ carriedParameters s) where
   -- the slice afterwards is the state that is done, in its set
   next : encodeState (done S (S .set) t) ≡ encodeState (takeMask S (decodeAs S s) (bodyOf f) lent .next)
   unfolding takeMask decodeAs

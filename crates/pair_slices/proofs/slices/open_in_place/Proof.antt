@@ -10,7 +10,7 @@ use lib.Seq.{take-at}
 use Rattle.numbers.specs.Number.{atFront}
 use Rattle.pair_frames.specs.Schemes.{schemeIn}
 use Rattle.pair_model.specs.Scheme.{noFiles, Scheme, field, concat}
-use Rattle.pair_model.specs.Frame.{Parameters, parameters, maskKind, header, frame, sideOf, sessionOf, bodyOf, headerBytes}
+use Rattle.pair_model.specs.Frame.{carriedParameters, Parameters, maskKind, header, frame, bodyOf, headerBytes}
 use Rattle.pair_model.specs.Unit.{state, takeOpen}
 use Rattle.pair_model.specs.StateSlice.{stringRoom, tritsRoom, inRoom, inFront, rooms, roomPlace, stateHeader, stateHeaderBytes, stateBytes, encodeState, decodeAs}
 use Rattle.pair_model.proofs.Internal.Encodings.{HasRoom}
@@ -20,7 +20,7 @@ use Rattle.pair_slices.proofs.Whole.{front-fits, behind-halves, whole}
 use Rattle.pair_slices.proofs.slices.open_in_place.Statement.{statement}
 use Rattle.pair_slices.proofs.slices.open_in_place.Tie as tie
 
-module _ (S : Scheme) (has-room : HasRoom S) (s f : List ℕ) (t : Parameters) (is : t ≡ parameters (sideOf s) (sessionOf s)) where
+module _ (S : Scheme) (has-room : HasRoom S) (s f : List ℕ) (t : Parameters) (is : t ≡ carriedParameters s) where
   abbrev n : ℕ
   n = S .keyBytes
 

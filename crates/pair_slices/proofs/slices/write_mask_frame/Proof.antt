@@ -10,7 +10,7 @@ use Rattle.numbers.specs.Number.{atFront}
 use Rattle.pair_frames.specs.Schemes.{schemeIn}
 use Rattle.pair_frames.proofs.Parts.{part-long, fields-part}
 use Rattle.pair_model.specs.Scheme.{noFiles, Scheme, concat}
-use Rattle.pair_model.specs.Frame.{Parameters, parameters, maskKind, openKind, header, frame, frameBytes, sideOf, sessionOf, bodyOf, headerBytes}
+use Rattle.pair_model.specs.Frame.{carriedParameters, Parameters, maskKind, openKind, header, frame, frameBytes, bodyOf, headerBytes}
 use Rattle.pair_model.specs.Unit.{takeOpen}
 use Rattle.pair_model.specs.StateSlice.{decodeAs}
 use Rattle.pair_model.proofs.Internal.Lengths.{open-length}
@@ -30,7 +30,7 @@ module _ (m : ℕ) (o o₁ : List ℕ) (room : headerBytes + m ≤ length o) (ke
     framed-is : (head : List ℕ) → length head ≡ headerBytes → o₁ ≡ pasted 0 head o → framed ≡ concat (head ∷ w ∷ []) ++ drop (headerBytes + m) o
     framed-is head l e = fields-front (fields-part (fields-more (fields-none {d = o}) headerBytes head o₁ l (omega arith) e) m room w lw)
 
-module _ (S : Scheme) (s f : List ℕ) (t : Parameters) (is : t ≡ parameters (sideOf s) (sessionOf s)) where
+module _ (S : Scheme) (s f : List ℕ) (t : Parameters) (is : t ≡ carriedParameters s) where
   abbrev m : ℕ
   m = S .innerBytes
 

@@ -4,7 +4,7 @@ use Prim.Native.Nat.{ℕ, _%_}
 use native.Mathlib.Omega.{arith}
 use borrow.Author.Needs.{needs}
 use Rattle.pair_frames.specs.Schemes.{schemeIn}
-use Rattle.pair_model.specs.Frame.{parameters}
+use Rattle.pair_model.specs.Frame.{sharedParameters, parameters}
 use Rattle.pair_model.specs.Unit.{begun}
 use Rattle.pair_model.specs.StateSlice.{encodeState}
 use Rattle.pair_model.proofs.Internal.Begins.{begin-fits, begin-accepted, begin-refused, begin-result}
@@ -16,8 +16,8 @@ returns c =
     let n = c .before .before .before .before .before in
     let a = n .before .before .before .before .args in
     let S = schemeIn (a .sizes) in
-    let t = parameters (a .side) (a .session) in
-    let number = n .begin-number .ensures (a .session) in (
+    let t = parameters (a .side) (a .session) (a .line) in
+    let number = n .begin-number .ensures (sharedParameters (a .session) (a .line)) in (
       number ∙ sym (begin-result S t (a .key .now) (a .label .now)),
       c .before .before .make-idle .ensures
           ∙ ap encodeState (sym (begin-refused S t (a .key .now) (a .label .now) (λ e. c .before .before .before .before .if1 .taken (number ∙ e)))),
@@ -28,7 +28,7 @@ begin-in-place-requires c κs =
     let n = c .before .before in
     let s = n .before .before .before .before in
     let a = s .args in
-    let f = begin-fits (schemeIn (a .sizes)) (parameters (a .side) (a .session)) (a .key .now) (a .label .now) (sym (n .begin-number .ensures (a .session)) ∙ c .before .if1 .left) in
+    let f = begin-fits (schemeIn (a .sizes)) (parameters (a .side) (a .session) (a .line)) (a .key .now) (a .label .now) (sym (n .begin-number .ensures (sharedParameters (a .session) (a .line))) ∙ c .before .if1 .left) in
     (s .pre .0, s .pre .1, f .key-length, f .label-length)
 
 returns-2 : tie.Need-returns-2
@@ -36,13 +36,13 @@ returns-2 c =
     let n = c .before .before .before .before .before in
     let a = n .before .before .before .before .args in
     let S = schemeIn (a .sizes) in
-    let t = parameters (a .side) (a .session) in
-    let z = sym (n .begin-number .ensures (a .session)) ∙ c .before .before .before .before .if1 .left in
+    let t = parameters (a .side) (a .session) (a .line) in
+    let z = sym (n .begin-number .ensures (sharedParameters (a .session) (a .line))) ∙ c .before .before .before .before .if1 .left in
     let f = begin-fits S t (a .key .now) (a .label .now) z in
     let side : a .side % 256 ≡ a .side = omega (arith, f .side-small) in (
       sym (begin-result S t (a .key .now) (a .label .now) ∙ z),
       c .before .before .begin-in-place .ensures
-          ∙ ap (λ (x : ℕ). encodeState (begun S (parameters x (a .session)) (a .key .now) (a .label .now))) side
+          ∙ ap (λ (x : ℕ). encodeState (begun S (parameters x (a .session) (a .line)) (a .key .now) (a .label .now))) side
           ∙ ap encodeState (sym (begin-accepted S t (a .key .now) (a .label .now) z)),
     )
 

@@ -22,7 +22,7 @@ returns c =
     let k = z .before .before in
     let a = k .before .before .before .before .args in
     let i = sym (k .is-set .ensures) ∙ z .before .if1 .taken in
-    let t = parameters (a .side) (a .session) in
+    let t = parameters (a .side) (a .session) (a .line) in
     let e = ap (λ (S : Scheme). begin S t (a .key .now) (a .label .now)) (named-scheme (a .set) (z .sizes-of .ensures) i) ∙ sym (begin-in (a .set) i t (a .key .now) (a .label .now)) in
     let b = c .before .before .begin-sized .ensures in
     (b .0 ∙ ap (λ (x : Beginning). x .result) e, b .1 ∙ ap (λ (x : Beginning). encodeState (x .next)) e)
@@ -31,7 +31,7 @@ returns-2 : tie.Need-returns-2
 returns-2 c =
     let k = c .before .before .before .before .before in
     let a = k .before .before .before .before .args in
-    let b = begin-none (a .set) (sym (k .is-set .ensures) ∙ c .before .before .before .before .if1 .left) (parameters (a .side) (a .session)) (a .key .now) (a .label .now) in
+    let b = begin-none (a .set) (sym (k .is-set .ensures) ∙ c .before .before .before .before .if1 .left) (parameters (a .side) (a .session) (a .line)) (a .key .now) (a .label .now) in
     (ap (λ (x : Beginning). x .result) (sym b), c .before .before .make-idle .ensures ∙ ap (λ (x : Beginning). encodeState (x .next)) (sym b))
 
 pub begin-slice-spec : {M : Type 1} → statement M

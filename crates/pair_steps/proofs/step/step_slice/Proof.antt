@@ -10,7 +10,7 @@ use lib.ListN.{length}
 use Rattle.numbers.specs.Number.{atFront}
 use Rattle.pair_frames.specs.Schemes.{schemeIn}
 use Rattle.pair_model.specs.Scheme.{Files, files, Scheme}
-use Rattle.pair_model.specs.Frame.{Parameters, parameters, kindOf, sideOf, sessionOf, bodyOf}
+use Rattle.pair_model.specs.Frame.{carriedParameters, Parameters, kindOf, bodyOf}
 use Rattle.pair_model.specs.Unit.{Stepped, stepNumber, advance, step}
 use Rattle.pair_model.specs.StateSlice.{encodeState, decodeAs}
 use Rattle.pair_model.proofs.Theorem.StepLaws.{numberFor, step-accepted, step-result, step-refused}
@@ -19,7 +19,7 @@ use Rattle.pair_steps.proofs.step.step_slice.Tie as tie
 
 module _ (S : Scheme) (s f : List ℕ) (lent : Files) (n : ℕ) where
   -- the number by the slice's bytes is that of its state
-  of-state : (t : Parameters) → t ≡ parameters (sideOf s) (sessionOf s) → stepNumber S t (kindOf s) f lent n ≡ numberFor S (decodeAs S s) f lent n
+  of-state : (t : Parameters) → t ≡ carriedParameters s → stepNumber S t (kindOf s) f lent n ≡ numberFor S (decodeAs S s) f lent n
   unfolding decodeAs
   of-state t e = ap (λ (x : Parameters). stepNumber S x (kindOf s) f lent n) e
 

@@ -24,7 +24,7 @@ begin-unit-requires c κs =
 returns : tie.Need-returns
 returns c =
     let a = c .before .before .before .before .before .before .args in
-    let t = parameters (a .side) (a .session) in
+    let t = parameters (a .side) (a .session) (a .line) in
     let is = sym (c .before .before .before .is-set .ensures) ∙ c .before .before .if1 .taken in
     let e = ap (λ (S : Scheme). begin S t (a .key .now) (a .label .now)) (named-scheme (a .set) (c .before .sizes-of .ensures) is)
     ∙ sym (begin-in (a .set) is t (a .key .now) (a .label .now)) in
@@ -36,7 +36,7 @@ returns c =
 returns-2 : tie.Need-returns-2
 returns-2 c =
     let a = c .before .before .before .before .before .args in
-    let e = sym (begin-none (a .set) (sym (c .before .before .is-set .ensures) ∙ c .before .if1 .left) (parameters (a .side) (a .session)) (a .key .now) (a .label .now)) in (
+    let e = sym (begin-none (a .set) (sym (c .before .before .is-set .ensures) ∙ c .before .if1 .left) (parameters (a .side) (a .session) (a .line)) (a .key .now) (a .label .now)) in (
       ap (λ (b : Beginning). b .result) e,
       (c .idle .ensures ∙ ap (λ (b : Beginning). unitOf (b .next)) e, theorems),
     )

@@ -63,7 +63,7 @@ first-round-spec =
     (λ c. omega (arith, c .before .before .before .before .before .before .before .pre .long))
     (λ c. lit≤ tt)
     (λ c. lit≤ tt)
-    (λ c. omega (arith, c .before .before .before .before .before .deal .kept .1 .1 .1 .0))
+    (λ c. omega (arith, c .before .before .before .before .before .deal .kept .1 .1 .1 .1 .0))
     start-requires
     (λ c. lit≤ tt)
     (λ c. lit≤ tt)
@@ -73,7 +73,7 @@ first-round-spec =
     (λ c. omega (arith, c .before .before .before .before .before .before .before .before .before .before .before .before .pre .long))
     (λ c. lit≤ tt)
     (λ c. lit≤ tt)
-    (λ c. omega (arith, c .before .before .before .before .before .before .before .before .before .before .deal .kept .1 .1 .1 .0))
+    (λ c. omega (arith, c .before .before .before .before .before .before .before .before .before .before .deal .kept .1 .1 .1 .1 .0))
     start-requires-2
     (λ c κs. tt)
     returns)

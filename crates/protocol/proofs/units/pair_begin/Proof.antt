@@ -54,14 +54,14 @@ returns c =
     let g = c .before .before in
     let k = g .before .before .before in
     let a = k .before .before .before .args in
-    let t = parameters (a .side) (a .session) in
+    let t = parameters (a .side) (a .session) (a .line) in
     let key = a .key .now in
     let label = a .label .now in
     let long = g .before .before .if1 .taken in
     let b = begin-long (a .state .now) long (a .set) t key label in
     let number = g .begin-slice .ensures .0 in
     let held = g .begin-slice .ensures .1 in
-    let next = ap decodeState (held ∙ b .1) ∙ decoded-begun (a .set) _ long t key label (record { session = omega arith }) (λ i. k .before .before .shared-slice-known .given i .fits) (λ i. k .before .shared-slice-known2 .given i .fits) in (
+    let next = ap decodeState (held ∙ b .1) ∙ decoded-begun (a .set) _ long t key label (record { session = omega arith; line = omega arith }) (λ i. k .before .before .shared-slice-known .given i .fits) (λ i. k .before .shared-slice-known2 .given i .fits) in (
       number ∙ b .0,
       (
         held ∙ b .1,
@@ -78,12 +78,12 @@ returns c =
 returns-2 : tie.Need-returns-2
 returns-2 c =
     let a = c .before .before .before .before .before .before .args in
-    short (a .set) (parameters (a .side) (a .session)) (a .key .now) (a .label .now) (a .state .now) (c .before .before .if1 .left) true (sym (c .before .is-set .ensures) ∙ c .if2 .taken)
+    short (a .set) (parameters (a .side) (a .session) (a .line)) (a .key .now) (a .label .now) (a .state .now) (c .before .before .if1 .left) true (sym (c .before .is-set .ensures) ∙ c .if2 .taken)
 
 returns-3 : tie.Need-returns-3
 returns-3 c =
     let a = c .before .before .before .before .before .before .args in
-    short (a .set) (parameters (a .side) (a .session)) (a .key .now) (a .label .now) (a .state .now) (c .before .before .if1 .left) false (sym (c .before .is-set .ensures) ∙ c .if2 .left)
+    short (a .set) (parameters (a .side) (a .session) (a .line)) (a .key .now) (a .label .now) (a .state .now) (c .before .before .if1 .left) false (sym (c .before .is-set .ensures) ∙ c .if2 .left)
 
 pub pair-begin-spec : {M : Type 1} → statement M
 pair-begin-spec = tie.close (tie.spec (λ c κs. c .before .if1 .taken) (λ c. search needs) returns (λ c κs. tt) returns-2 returns-3)
