@@ -1,5 +1,5 @@
 /* What a host runs at power-on: in each set, and there in both lines, a sample whose code is known, through matrix
- * writer, dealer, both units and the counter's join, and frames, files and sets that must be refused.
+ * writer, dealer, both units and the counter's join, and frames, files, matrices and sets that must be refused.
  *
  *     self_test
  *
@@ -14,8 +14,8 @@
 
 /* The interface that this host was written for. Another one does not compile, where the host would else go
  * wrong; and a library of other lengths than this header's refuses the sample with 1. */
-#if PAIR_VERSION_MAJOR != 4 || PAIR_VERSION < PAIR_VERSION_OF(4, 0, 0)
-#error "this host is written for version 4 of service_pair.h"
+#if PAIR_VERSION_MAJOR != 5 || PAIR_VERSION < PAIR_VERSION_OF(5, 0, 0)
+#error "this host is written for version 5 of service_pair.h"
 #endif
 _Static_assert(sizeof(size_t) == sizeof(uint64_t), "the library is for 64 bits");
 
@@ -95,7 +95,7 @@ static void clear_code(void)
     memset(held.code, UNWRITTEN, sizeof held.code);
 }
 
-/* ---- sets */
+/* ---- matrices and sets */
 
 /* A block's check: two sums modulo 255. */
 static void make_block_check(uint8_t block[PAIR_BLOCK_BYTES])
@@ -107,6 +107,32 @@ static void make_block_check(uint8_t block[PAIR_BLOCK_BYTES])
     }
     block[PAIR_BLOCK_BYTES - 2] = (uint8_t)first;
     block[PAIR_BLOCK_BYTES - 1] = (uint8_t)second;
+}
+
+/* Row 2 becomes twice row 0, so that digit 2 of every code would tell digit 0; or what it was. Rows begin at byte 4 of
+ * a block, and these are in the first one in every set. */
+static void tie_rows(bool tied)
+{
+    uint8_t row[PAIR_MAX_ROW_BYTES] = {0};
+    size_t n = PAIR_ROW_BYTES_OF(set);
+    row[0] = tied ? 0 : 1 << 2;
+    row[n / 2] = tied;
+    memcpy(held.rows + 2 * n, row, n);
+    memcpy(held.file + 4 + 2 * n, row, n);
+    make_block_check(held.file);
+}
+
+static void check_tied_rows(void)
+{
+    size_t file_n = PAIR_FILE_BYTES_OF(set), rows_n = PAIR_ROWS_BYTES_OF(set), n = PAIR_KEY_BYTES_OF(set);
+    tie_rows(true);
+    check(pair_matrix_write(set, held.rows, rows_n, held.file, sizeof held.file) == PAIR_TIED_ROWS &&
+              pair_matrix_check(set, held.file, file_n) == PAIR_TIED_ROWS &&
+              pair_matrix_read(set, held.file, file_n, held.rows, sizeof held.rows) == PAIR_TIED_ROWS &&
+              pair_evaluate(set, held.key, n, held.label, n, held.file, file_n, held.code, sizeof held.code) ==
+                  PAIR_TIED_ROWS,
+          "a matrix whose rows are tied is refused by its number");
+    tie_rows(false);
 }
 
 /* Blocks have their set in byte 3. */
@@ -222,7 +248,8 @@ static void check_damaged(int side, int step)
     check_refused(side, a_frame(frame, other_n), PAIR_FRAME_LENGTH, "a frame of another set is refused by its length");
 }
 
-/* The frame that is waited for, but too little of the state or of the room, or a file with a block of another set. */
+/* The frame that is waited for, but too little of the state or of the room, or a file with a block of another set or
+ * with tied rows. */
 static void check_slices(int side, int step)
 {
     const struct handed whole = a_frame(held.frames[side], frame_bytes(set, step));
@@ -237,6 +264,9 @@ static void check_slices(int side, int step)
     name_set_in_file(set % PAIR_SETS + 1);
     check_refused(side, whole, PAIR_BLOCK_LAYOUT, "a step with a block of another set is refused by its number");
     name_set_in_file(set);
+    tie_rows(true);
+    check_refused(side, whole, PAIR_TIED_ROWS, "a step with tied rows is refused by its number");
+    tie_rows(false);
 }
 
 static void begin_units(void)
@@ -366,6 +396,7 @@ static void check_run(void)
 static void test_set(void)
 {
     make_sample();
+    check_tied_rows();
     check_file_of_other_set();
     check_refused_beginning(PAIR_WRONG_LENGTH);
     begin_units();

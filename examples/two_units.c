@@ -140,11 +140,11 @@ static void unit(uint32_t side, int home, int other)
     exit(0);
 }
 
-/* A public matrix for the show. The last quarter of a tape are uniform trits, as many as a row has. No dealer uses
- * these tapes, so they are no secret. */
-static void draw_matrix(uint8_t file[PAIR_MAX_FILE_BYTES])
+/* Rows of uniform trits: the last quarter of a tape, which has as many as a row. No dealer uses these tapes, so they
+ * are no secret. */
+static void draw_rows(uint8_t rows[PAIR_MAX_ROWS_BYTES])
 {
-    uint8_t rows[PAIR_MAX_ROWS_BYTES], source[PAIR_MAX_SOURCE_BYTES], tape[PAIR_MAX_TAPE_BYTES];
+    uint8_t source[PAIR_MAX_SOURCE_BYTES], tape[PAIR_MAX_TAPE_BYTES];
     size_t rows_n = PAIR_ROWS_BYTES_OF(set), row_n = PAIR_ROW_BYTES_OF(set), source_n = PAIR_SOURCE_BYTES_OF(set);
     uint64_t next;
     for (size_t at = 0; at < rows_n; at += row_n) {
@@ -152,7 +152,18 @@ static void draw_matrix(uint8_t file[PAIR_MAX_FILE_BYTES])
         expect_ok("sampler", pair_sample(set, 0, source, source_n, tape, sizeof tape, &next));
         memcpy(rows + at, tape + PAIR_TAPE_BYTES_OF(set) - row_n, row_n);
     }
-    expect_ok("matrix", pair_matrix_write(set, rows, rows_n, file, PAIR_FILE_BYTES_OF(set)));
+}
+
+/* A public matrix for the show. Rows that are tied, less than once in 2^60 times, are drawn anew. */
+static void draw_matrix(uint8_t file[PAIR_MAX_FILE_BYTES])
+{
+    uint8_t rows[PAIR_MAX_ROWS_BYTES];
+    uint32_t number;
+    do {
+        draw_rows(rows);
+        number = pair_matrix_write(set, rows, PAIR_ROWS_BYTES_OF(set), file, PAIR_FILE_BYTES_OF(set));
+    } while (number == PAIR_TIED_ROWS);
+    expect_ok("matrix", number);
 }
 
 /* A unit at one owner's: its socket to this process, and its process. */

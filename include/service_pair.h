@@ -38,15 +38,16 @@
  *
  * STACK. What each call uses at most in any set, arguments and return address included, in KiB, rounded up:
  *
- *     pair_matrix_check   0.5     pair_evaluate      2.7     pair_begin             0.1
- *     pair_matrix_read    0.6     pair_sample        0.7     pair_step, with deal   0.4
- *     pair_matrix_write   1.2     pair_deal          2.8     .. with open           3.1
- *     pair_join           0.3     pair_deal_source   3.4     .. with mask           1.3
- *                                                            pair_run               9.5
+ *     pair_matrix_check  26.8     pair_evaluate     27.2     pair_begin             0.1
+ *     pair_matrix_read   27.0     pair_sample        0.7     pair_step, with deal   0.4
+ *     pair_matrix_write  27.6     pair_deal          2.8     .. with open           3.1
+ *     pair_join           0.3     pair_deal_source   3.4     .. with mask          27.1
+ *                                                            pair_run              30.7
  *
- * A program that looks for memcpy and memset at their first use (lazy binding) takes about 3.1 KiB below where
- * they are called, so pair_run 9.7 in all where it is the first call; linked with -z now it does not. Measured,
- * not proved: the library was made by the toolchain rattle-kit-5b, its callers by GCC 12 and Clang 14.
+ * What judges a matrix has room for all rows of set 3, whichever set is named. A program that looks for memcpy and
+ * memset at their first use (lazy binding) takes about 3.1 KiB below where they are called, so pair_run 33.1 in all
+ * where it is the first call; linked with -z now it does not. Measured, not proved: the library was made by the
+ * toolchain rattle-kit-5b, its callers by GCC 12 and Clang 14.
  * tests/c/stack.c measures the table again.
  *
  * Calls do not clear the stack that they used, and copies of secrets stay there until something else is
@@ -61,11 +62,11 @@
 #include <stddef.h>
 #include <stdint.h>
 
-/* The version of this interface, as one number that compares: `#if PAIR_VERSION < PAIR_VERSION_OF(4, 1, 0)`.
+/* The version of this interface, as one number that compares: `#if PAIR_VERSION < PAIR_VERSION_OF(5, 1, 0)`.
  * MAJOR is raised where a host must be looked at again (a parameter, a length, a layout or the meaning of a
  * number is another), MINOR where a call, a number or a name was added, PATCH where neither is. The library
  * has no version of its own: header and library are of one build. */
-#define PAIR_VERSION_MAJOR 4
+#define PAIR_VERSION_MAJOR 5
 #define PAIR_VERSION_MINOR 0
 #define PAIR_VERSION_PATCH 0
 #define PAIR_VERSION_OF(major, minor, patch) ((major) * 10000 + (minor) * 100 + (patch))
@@ -170,7 +171,7 @@
 
 /* Of every set. */
 #define PAIR_STATE_BYTES 520   /* a unit's state: see pair_begin */
-#define PAIR_STACK_BYTES 12288 /* more than any call uses of the stack: see STACK */
+#define PAIR_STACK_BYTES 36864 /* more than any call uses of the stack: see STACK */
 
 enum pair_kind { PAIR_DEAL = 1, PAIR_OPEN = 2, PAIR_MASK = 3, PAIR_SHARE = 4 };
 
@@ -202,7 +203,9 @@ enum pair_number {
                                  the layout */
     PAIR_UNFIT_TRIT = 10,     /* a trit with both bits set */
     PAIR_UNUSED_BIT = 11,     /* an unused bit set in a share frame */
-    PAIR_ZERO_ROW = 12,       /* a row is all zero */
+    PAIR_TIED_ROWS = 12,      /* a choice of digits, not all 0, makes the rows of the matrix, so multiplied, add to the
+                                 zero row modulo 3: a zero row, two equal rows, one twice another, or any
+                                 row that others, once or twice, add up to */
     PAIR_SHORT_SOURCE = 13,   /* a source has fewer than 3n pairs from the start, or fewer than n other than 3 after
                                  those, or 2^62 bytes or more, whose pairs 64 bits would not count */
     PAIR_NO_SET = 14,         /* set is not 1, 2 or 3: looked at before all other numbers */
@@ -215,7 +218,8 @@ extern "C" {
 
 /* A length that ends in _OF is that of the set which the call names, or which the state has. */
 
-/* Whether a matrix file is fit. Gives 0, 1, 8, 9, 10, 12 or 14. */
+/* Whether a matrix file is fit: checks, layout and trits as they must be, and rows not tied. Gives 0, 1, 8, 9, 10, 12
+ * or 14. */
 PAIR_NODISCARD PAIR_NONNULL
 uint32_t pair_matrix_check(uint32_t set, const uint8_t *file, size_t file_n);
 

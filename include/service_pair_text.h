@@ -33,8 +33,8 @@ static inline const char *pair_number_text(uint32_t number)
         return "a trit has both bits set";
     case PAIR_UNUSED_BIT:
         return "an unused bit of a share frame is set";
-    case PAIR_ZERO_ROW:
-        return "a row of the matrix is all zero";
+    case PAIR_TIED_ROWS:
+        return "the rows of the matrix are tied: multiplied by digits, not all 0, they add to the zero row modulo 3";
     case PAIR_SHORT_SOURCE:
         return "the source has too few usable pairs of bits from the start on";
     case PAIR_NO_SET:

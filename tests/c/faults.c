@@ -23,10 +23,13 @@ enum fault {
     BEGIN_REFUSED_KEEPS_SET,
     BEGIN_REFUSED_KEEPS_LINE,
     WRITE_REFUSES,
+    WRITE_TAKES_TIED_ROWS,
     CHECK_REFUSES,
+    CHECK_TAKES_TIED_ROWS,
     CHECK_TAKES_OTHER_LENGTH,
     CHECK_PASSES_OVER_BYTE_3,
     READ_PASSES_OVER_BYTE_3,
+    READ_TAKES_TIED_ROWS,
     DEAL_REFUSES,
     DEAL_IN_LINE_0,
     BEGIN_REFUSES,
@@ -44,6 +47,7 @@ enum fault {
     STEP_TAKES_LITTLE_ROOM,
     STEP_LEAST_OUTPUT_OF_SET_1,
     STEP_PASSES_OVER_BYTE_3,
+    STEP_TAKES_TIED_ROWS,
     STEP_REFUSED_CHANGES_STATE,
     STEP_REFUSED_WRITES,
     STEP_REFUSED_COUNTS,
@@ -67,6 +71,7 @@ enum fault {
     RUN_REFUSES,
     RUN_OTHER_CODE,
     EVALUATE_PASSES_OVER_BYTE_3,
+    EVALUATE_TAKES_TIED_ROWS,
     EVALUATE_REFUSES,
     EVALUATE_OTHER_CODE,
     EVALUATE_WRITES_MORE,
@@ -85,10 +90,13 @@ static const char *const first_failed[FAULTS] = {
     [BEGIN_REFUSED_KEEPS_SET] = "a refused beginning writes the idle state",
     [BEGIN_REFUSED_KEEPS_LINE] = "a refused beginning writes the idle state",
     [WRITE_REFUSES] = "the matrix file is written",
+    [WRITE_TAKES_TIED_ROWS] = "a matrix whose rows are tied is refused by its number",
     [CHECK_REFUSES] = "the matrix file is fit",
+    [CHECK_TAKES_TIED_ROWS] = "a matrix whose rows are tied is refused by its number",
     [CHECK_TAKES_OTHER_LENGTH] = "a file of another set is refused by its length",
     [CHECK_PASSES_OVER_BYTE_3] = "a block of another set is refused by its number",
     [READ_PASSES_OVER_BYTE_3] = "a block of another set is refused by its number",
+    [READ_TAKES_TIED_ROWS] = "a matrix whose rows are tied is refused by its number",
     [DEAL_REFUSES] = "the dealer deals",
     /* seen in line 1, as the other faults named LINE_0 */
     [DEAL_IN_LINE_0] = "a unit takes the frame that it waits for",
@@ -108,6 +116,7 @@ static const char *const first_failed[FAULTS] = {
     /* in set 2, where every step would be refused with 1 */
     [STEP_LEAST_OUTPUT_OF_SET_1] = "a frame with a damaged header is refused by its number",
     [STEP_PASSES_OVER_BYTE_3] = "a step with a block of another set is refused by its number",
+    [STEP_TAKES_TIED_ROWS] = "a step with tied rows is refused by its number",
     [STEP_REFUSED_CHANGES_STATE] = "a refused frame leaves the state as it was",
     [STEP_REFUSED_WRITES] = "a refused frame writes nothing",
     [STEP_REFUSED_COUNTS] = "a refused frame writes nothing",
@@ -131,6 +140,7 @@ static const char *const first_failed[FAULTS] = {
     [RUN_REFUSES] = "a whole run is accepted",
     [RUN_OTHER_CODE] = "a whole run gives the sample's code and no byte more",
     [EVALUATE_PASSES_OVER_BYTE_3] = "a block of another set is refused by its number",
+    [EVALUATE_TAKES_TIED_ROWS] = "a matrix whose rows are tied is refused by its number",
     [EVALUATE_REFUSES] = "the evaluator evaluates",
     [EVALUATE_OTHER_CODE] = "the evaluator gives the sample's code and no byte more",
     [EVALUATE_WRITES_MORE] = "the evaluator gives the sample's code and no byte more",
@@ -168,19 +178,23 @@ static uint32_t set_taken(uint32_t set)
 
 static uint32_t faulty_write(uint32_t set, const uint8_t *rows, size_t rows_n, uint8_t *out, size_t out_n)
 {
-    return refusing(WRITE_REFUSES, without_set(out, pair_matrix_write(set_taken(set), rows, rows_n, out, out_n)));
+    uint32_t number = without_set(out, pair_matrix_write(set_taken(set), rows, rows_n, out, out_n));
+    return refusing(WRITE_REFUSES, accepting(WRITE_TAKES_TIED_ROWS, PAIR_TIED_ROWS, number));
 }
 
 static uint32_t faulty_check(uint32_t set, const uint8_t *file, size_t file_n)
 {
     uint32_t number = pair_matrix_check(set, file, file_n);
     number = accepting(CHECK_TAKES_OTHER_LENGTH, PAIR_WRONG_LENGTH, number);
+    number = accepting(CHECK_TAKES_TIED_ROWS, PAIR_TIED_ROWS, number);
     return refusing(CHECK_REFUSES, accepting(CHECK_PASSES_OVER_BYTE_3, PAIR_BLOCK_LAYOUT, number));
 }
 
 static uint32_t faulty_read(uint32_t set, const uint8_t *file, size_t file_n, uint8_t *out, size_t out_n)
 {
-    return accepting(READ_PASSES_OVER_BYTE_3, PAIR_BLOCK_LAYOUT, pair_matrix_read(set, file, file_n, out, out_n));
+    uint32_t number = pair_matrix_read(set, file, file_n, out, out_n);
+    number = accepting(READ_TAKES_TIED_ROWS, PAIR_TIED_ROWS, number);
+    return accepting(READ_PASSES_OVER_BYTE_3, PAIR_BLOCK_LAYOUT, number);
 }
 
 static uint32_t faulty_sample(uint32_t set, uint64_t start, const uint8_t *source, size_t source_n, uint8_t *out,
@@ -293,6 +307,7 @@ static uint32_t faulty_step(uint8_t *state, size_t state_n, const uint8_t *frame
     number = accepting(state_n < PAIR_STATE_BYTES ? STEP_TAKES_CUT_STATE : STEP_TAKES_LITTLE_ROOM, PAIR_WRONG_LENGTH,
                        number);
     number = accepting(STEP_PASSES_OVER_BYTE_3, PAIR_BLOCK_LAYOUT, number);
+    number = accepting(STEP_TAKES_TIED_ROWS, PAIR_TIED_ROWS, number);
     number = accepting(STEP_TAKES_DAMAGED, PAIR_OTHER_SESSION, number);
     number = accepting(STEP_TAKES_OTHER_LINE, PAIR_OTHER_LINE, number);
     number = accepting(STEP_TAKES_WHEN_DONE, PAIR_NOT_WAITED_FOR, number);
@@ -329,6 +344,7 @@ static uint32_t faulty_evaluate(uint32_t set, const uint8_t *key, size_t key_n, 
         out[PAIR_CODE_BYTES_OF(set) - 1] ^= fault == EVALUATE_OTHER_CODE;
         out[PAIR_CODE_BYTES_OF(set)] ^= fault == EVALUATE_WRITES_MORE;
     }
+    number = accepting(EVALUATE_TAKES_TIED_ROWS, PAIR_TIED_ROWS, number);
     return refusing(EVALUATE_REFUSES, accepting(EVALUATE_PASSES_OVER_BYTE_3, PAIR_BLOCK_LAYOUT, number));
 }
 

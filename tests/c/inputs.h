@@ -1,5 +1,5 @@
-/* Inputs of the tests in C: numbers that look random, the same in every run (xorshift), fit trits, a block's check,
- * how long frames are, and what pair_run takes. */
+/* Inputs of the tests in C: numbers that look random, the same in every run (xorshift), fit trits, rows near to
+ * tied, a block's check, how long frames are, and what pair_run takes. */
 #ifndef TEST_INPUTS_H
 #define TEST_INPUTS_H
 
@@ -30,6 +30,16 @@ static inline void make_fit(uint8_t *vectors, size_t n, size_t plane)
 {
     for (size_t i = 0; i < n; i++)
         vectors[i] &= i % (2 * plane) < plane ? 0xff : (uint8_t)~vectors[i - plane];
+}
+
+/* Makes the first two of rows of n bytes near to tied: row 1 is row 0 but for the last column, in which row 0 has 0 and
+ * row 1 has 1, so that it takes all columns to see that they are not. */
+static inline void make_near(uint8_t *rows, size_t n)
+{
+    rows[n / 2 - 1] &= 0x7f;
+    rows[n - 1] &= 0x7f;
+    memcpy(rows + n, rows, n);
+    rows[n + n / 2 - 1] |= 0x80;
 }
 
 /* A fit block's last two bytes: two sums modulo 255. */

@@ -145,6 +145,13 @@ static bool is_idle(const struct lent *s)
     return memcmp(s->p, idle, sizeof idle) == 0;
 }
 
+/* The line of the state after an accepted call. A step keeps the state's own, of which a bit may be flipped: that may
+ * be the line of a frame that is else refused. */
+static uint8_t line_after(const struct call *call, const struct lent *s)
+{
+    return call->run == run_begin ? LINE : s->before[s->p - s->pages + LINE_AT];
+}
+
 /* What a slice must be after the call. */
 static void expect_slice(const struct call *call, enum role role, const struct lent *s, uint32_t number)
 {
@@ -153,7 +160,7 @@ static void expect_slice(const struct call *call, enum role role, const struct l
         expect(is_idle(s) && kept(s, s->n), call->name, "a refused beginning writes the idle state alone");
         return;
     }
-    expect(!state || !done || (s->p[LINE_AT] == LINE && s->p[SET_AT] == call->set), call->name,
+    expect(!state || !done || (s->p[LINE_AT] == line_after(call, s) && s->p[SET_AT] == call->set), call->name,
            "the state has another line or set");
     size_t written = !done ? 0 : state ? s->n : role == OUTPUT ? call->writes : 0;
     expect(kept(s, written), call->name, done ? "other bytes were written" : "a refusal wrote");
@@ -273,12 +280,35 @@ static uint8_t tape[PAIR_MAX_TAPE_BYTES], dealt[PAIR_MAX_DEALT_BYTES], input[PAI
 static uint8_t keys[2][PAIR_MAX_KEY_BYTES], labels[2][PAIR_MAX_LABEL_BYTES];
 /* the file with a block of another set, its check made good */
 static uint8_t mixed_file[PAIR_MAX_FILE_BYTES];
+/* rows and file where row 1 is row 0, and where they differ in the last column alone, so that it takes all columns to
+ * see that they are not tied */
+static uint8_t tied_rows[PAIR_MAX_ROWS_BYTES], tied_file[PAIR_MAX_FILE_BYTES];
+static uint8_t near_rows[PAIR_MAX_ROWS_BYTES], near_file[PAIR_MAX_FILE_BYTES];
 /* each unit's state before each step and when done, and the frame of each step */
 static uint8_t states[2][4][PAIR_STATE_BYTES], frames[2][4][PAIR_MAX_DEAL_FRAME_BYTES];
 
 static void made(const char *what, uint32_t number)
 {
     expect(number == PAIR_DONE, what, "a fit input was refused");
+}
+
+static void make_near_file(void)
+{
+    size_t rows_n = PAIR_ROWS_BYTES_OF(set);
+    memcpy(near_rows, rows, rows_n);
+    make_near(near_rows, PAIR_ROW_BYTES_OF(set));
+    made("pair_matrix_write", pair_matrix_write(set, near_rows, rows_n, near_file, sizeof near_file));
+}
+
+/* No call writes this file. Rows begin at byte 4, and these are in the first block in every set. */
+static void make_tied(void)
+{
+    size_t n = PAIR_ROW_BYTES_OF(set);
+    memcpy(tied_rows, rows, sizeof tied_rows);
+    memcpy(tied_rows + n, rows, n);
+    memcpy(tied_file, file, sizeof tied_file);
+    memcpy(tied_file + 4 + n, rows, n);
+    make_block_check(tied_file);
 }
 
 static void make_matrix(void)
@@ -291,6 +321,8 @@ static void make_matrix(void)
     uint8_t *block = mixed_file + file_n - PAIR_BLOCK_BYTES;
     block[3] = (uint8_t)(set % PAIR_SETS + 1);
     make_block_check(block);
+    make_near_file();
+    make_tied();
 }
 
 static void make_steps(void)
@@ -371,6 +403,9 @@ static void try_steps(void)
         }
         try_step(side, 2, taken[2], mixed_file, PAIR_BLOCK_LAYOUT);
         try_step(side, 2, in_other_line(taken[2]), mixed_file, PAIR_BLOCK_LAYOUT);
+        try_step(side, 2, taken[2], tied_file, PAIR_TIED_ROWS);
+        try_step(side, 2, in_other_line(taken[2]), tied_file, PAIR_TIED_ROWS);
+        try_step(side, 2, taken[2], near_file, PAIR_DONE);
         try_step(side, 3, taken[2], file, PAIR_NOT_WAITED_FOR);
     }
 }
@@ -433,8 +468,10 @@ static void try_others(void)
     size_t file_n = PAIR_FILE_BYTES_OF(set), rows_n = PAIR_ROWS_BYTES_OF(set), dealt_n = PAIR_DEALT_BYTES_OF(set);
     size_t key_n = PAIR_KEY_BYTES_OF(set), label_n = PAIR_LABEL_BYTES_OF(set), code_n = PAIR_CODE_BYTES_OF(set);
     const struct slice a_file = {INPUT, file, file_n}, mixed = {INPUT, mixed_file, file_n};
+    const struct slice tied = {INPUT, tied_file, file_n}, near = {INPUT, near_file, file_n};
     const struct slice a_key = {INPUT, keys[0], key_n}, a_label = {INPUT, labels[0], label_n};
     const struct slice a_tape = {INPUT, tape, PAIR_TAPE_BYTES_OF(set)}, all_rows = {INPUT, rows, rows_n};
+    const struct slice to_refuse = {INPUT, tied_rows, rows_n}, to_accept = {INPUT, near_rows, rows_n};
     const struct slice share0 = {FRAME, frames[0][3], frame_bytes(set, 3)};
     const struct slice share1 = {FRAME, frames[1][3], frame_bytes(set, 3)};
     const struct slice other = {FRAME, in_other_line(frames[1][3]), frame_bytes(set, 3)};
@@ -443,11 +480,20 @@ static void try_others(void)
     const struct call others[] = {
         {"pair_matrix_check", set, run_check, {a_file}, .n = 1},
         {"pair_matrix_check", set, run_check, {mixed}, .n = 1, .number = PAIR_BLOCK_LAYOUT},
+        {"pair_matrix_check", set, run_check, {tied}, .n = 1, .number = PAIR_TIED_ROWS},
+        {"pair_matrix_check", set, run_check, {near}, .n = 1},
         {"pair_matrix_write", set, run_write, {all_rows, to_file}, .n = 2, .writes = file_n},
+        /* One flipped bit unties the rows. */
+        {"pair_matrix_write", set, run_write, {to_refuse, to_file}, .n = 2, .writes = file_n, .number = PAIR_TIED_ROWS},
+        {"pair_matrix_write", set, run_write, {to_accept, to_file}, .n = 2, .writes = file_n},
         {"pair_matrix_read", set, run_read, {a_file, to_rows}, .n = 2, .writes = rows_n},
         {"pair_matrix_read", set, run_read, {mixed, to_rows}, .n = 2, .number = PAIR_BLOCK_LAYOUT},
+        {"pair_matrix_read", set, run_read, {tied, to_rows}, .n = 2, .number = PAIR_TIED_ROWS},
+        {"pair_matrix_read", set, run_read, {near, to_rows}, .n = 2, .writes = rows_n},
         {"pair_evaluate", set, run_evaluate, {a_key, a_label, a_file, to_code}, .n = 4, .writes = code_n},
         {"pair_evaluate", set, run_evaluate, {a_key, a_label, mixed, to_code}, .n = 4, .number = PAIR_BLOCK_LAYOUT},
+        {"pair_evaluate", set, run_evaluate, {a_key, a_label, tied, to_code}, .n = 4, .number = PAIR_TIED_ROWS},
+        {"pair_evaluate", set, run_evaluate, {a_key, a_label, near, to_code}, .n = 4, .writes = code_n},
         {"pair_deal", set, run_deal, {a_tape, to_frames}, .n = 2, .writes = dealt_n},
         {"pair_join", set, run_join, {share0, share1, to_code}, .n = 3, .writes = code_n},
         /* One flipped bit makes the lines equal again. */
@@ -458,12 +504,20 @@ static void try_others(void)
 }
 
 /* Set 1 alone has it. */
-static void try_run(void)
+static void try_run(const uint8_t *matrix, uint32_t number)
 {
-    make_input(input, keys, labels, tape, file);
+    make_input(input, keys, labels, tape, matrix);
     const struct slice whole = {INPUT, input, sizeof input}, to_code = {OUTPUT, NULL, PAIR_CODE_BYTES};
-    const struct call call = {"pair_run", set, run_run, {whole, to_code}, .n = 2, .writes = PAIR_CODE_BYTES};
+    struct call call = {"pair_run", set, run_run, {whole, to_code}, .n = 2, .writes = PAIR_CODE_BYTES};
+    call.number = number;
     try_call(&call);
+}
+
+static void try_runs(void)
+{
+    try_run(file, PAIR_DONE);
+    try_run(tied_file, PAIR_TIED_ROWS);
+    try_run(near_file, PAIR_DONE);
 }
 
 int main(void)
@@ -479,7 +533,7 @@ int main(void)
         try_beginnings();
         try_steps();
         if (set == 1)
-            try_run();
+            try_runs();
     }
     printf("slices: %lu calls between guards\n", calls);
     return 0;

@@ -1,5 +1,6 @@
 /* How deep calls go on the stack, and what they leave there. Each is made in every set on a stack of its own, which is
- * filled with a pattern before and looked at afterwards:
+ * filled with a pattern before and looked at afterwards; with random rows, and with rows that only all columns together
+ * tell not to be tied:
  *
  *     stack        no call goes deeper than service_pair.h says; pair_wipe_stack leaves no piece of a secret,
  *                  and pair_wipe none of a buffer whose function has returned
@@ -55,10 +56,19 @@ static void make_tape(uint64_t start, uint8_t *to_tape, uint8_t *to_dealt)
     made("pair_deal", pair_deal(set, SESSION, LINE, to_tape, tape_n, to_dealt, PAIR_DEALT_BYTES_OF(set)));
 }
 
-static void make_inputs(void)
+/* Random rows; or near to tied ones. */
+static void make_rows(bool near)
 {
+    size_t n = PAIR_ROW_BYTES_OF(set);
     fill(rows, sizeof rows);
-    make_fit(rows, sizeof rows, PAIR_ROW_BYTES_OF(set) / 2);
+    make_fit(rows, sizeof rows, n / 2);
+    if (near)
+        make_near(rows, n);
+}
+
+static void make_inputs(bool near)
+{
+    make_rows(near);
     made("pair_matrix_write", pair_matrix_write(set, rows, PAIR_ROWS_BYTES_OF(set), file, sizeof file));
     fill(source, sizeof source);
     make_tape(0, tape, dealt);
@@ -226,10 +236,10 @@ static struct call {
     const uint8_t *state;  /* what a step begins with */
     size_t deepest;        /* in all sets */
 } calls[] = {
-    {"pair_matrix_check", matrix_check, 5, NULL, 0},
-    {"pair_matrix_write", matrix_write, 12, NULL, 0},
-    {"pair_matrix_read", matrix_read, 6, NULL, 0},
-    {"pair_evaluate", evaluate, 27, NULL, 0},
+    {"pair_matrix_check", matrix_check, 268, NULL, 0},
+    {"pair_matrix_write", matrix_write, 276, NULL, 0},
+    {"pair_matrix_read", matrix_read, 270, NULL, 0},
+    {"pair_evaluate", evaluate, 272, NULL, 0},
     {"pair_sample", sample, 7, NULL, 0},
     {"pair_sample, start 1", sample_inside, 7, NULL, 0},
     {"pair_deal", deal, 28, NULL, 0},
@@ -238,9 +248,9 @@ static struct call {
     {"pair_begin", begin, 1, NULL, 0},
     {"pair_step, deal", step_deal, 4, states[0], 0},
     {"pair_step, open", step_open, 31, states[1], 0},
-    {"pair_step, mask", step_mask, 13, states[2], 0},
+    {"pair_step, mask", step_mask, 271, states[2], 0},
     {"pair_join", join, 3, NULL, 0},
-    {"pair_run", whole_run, 95, NULL, 0},
+    {"pair_run", whole_run, 307, NULL, 0},
 };
 
 static void make_call(const struct call *call, uint8_t pattern, bool wiping)
@@ -274,6 +284,17 @@ static void try_call(struct call *call, bool print)
         fail(call->name, "pair_wipe_stack leaves a piece of a secret");
     if (depth(0x5a) < PAIR_STACK_BYTES)
         fail(call->name, "pair_wipe_stack does not reach PAIR_STACK_BYTES");
+}
+
+/* All calls of the set, with rows of one of the two sorts. */
+static void try_calls(bool near, bool print)
+{
+    /* These calls also find memcpy, if the loader has not yet: it goes deeper than they do. */
+    make_inputs(near);
+    make_steps();
+    for (size_t i = 0; i < sizeof calls / sizeof calls[0]; i++)
+        if (set == 1 || calls[i].run != whole_run)
+            try_call(&calls[i], print);
 }
 
 /* What all sets together give for the table, rounded up. */
@@ -328,12 +349,8 @@ int main(int argc, char **argv)
     bool print = argc > 1 && strcmp(argv[1], "all") == 0;
     size_t n = sizeof calls / sizeof calls[0];
     for (set = 1; set <= PAIR_SETS; set++) {
-        /* These calls also find memcpy, if the loader has not yet: it goes deeper than they do. */
-        make_inputs();
-        make_steps();
-        for (size_t i = 0; i < n; i++)
-            if (set == 1 || calls[i].run != whole_run)
-                try_call(&calls[i], print);
+        for (int near = 0; near < 2; near++)
+            try_calls(near, print);
         try_wipe();
     }
     for (size_t i = 0; print && i < n; i++)

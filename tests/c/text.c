@@ -45,6 +45,7 @@ _Static_assert(PAIR_ROW_BYTES_OF(1) == 64 && PAIR_ROW_BYTES_OF(2) == 16 && PAIR_
 _Static_assert(PAIR_INPUT_BYTES == 6528 && PAIR_STATE_BYTES == PAIR_HEADER_BYTES + 1 + 8 * PAIR_MAX_KEY_BYTES,
                "what has one length");
 _Static_assert(PAIR_HEADER_BYTES == 7 && PAIR_STATE_BYTES == 520, "the stated header and state");
+_Static_assert(PAIR_VERSION == PAIR_VERSION_OF(5, 0, 0) && PAIR_TIED_ROWS == 12, "the stated version and number");
 _Static_assert(PAIR_LINE_BIKES == 0 && PAIR_LINE_STORAGE == 1 && PAIR_OTHER_LINE == 15, "the stated lines");
 /* Existing hosts may ask the preprocessor. */
 #if PAIR_KEY_BYTES != 32 || PAIR_FILE_BYTES != 6144

@@ -1,9 +1,9 @@
 //! The same work in Rust written for speed: words of 64 bits, bit-sliced digits,
-//! remainders taken once, one pass over the matrix file, no allocation, states
-//! and frames changed where they stand. All of it is written over the numbers of
-//! words and digits and compiled for each set, which a call turns to once. The
-//! benchmark runs it beside the proved libraries; the unit tests below compare it
-//! with the reference.
+//! remainders taken once, one pass over the matrix file, ties looked for in as few
+//! columns as tell, no allocation, states and frames changed where they stand. All
+//! of it is written over the numbers of words and digits and compiled for each set,
+//! which a call turns to once. The benchmark runs it beside the proved libraries;
+//! the unit tests below compare it with the reference.
 //!
 //! As in the proved code, no branch and no index depends on a secret, but for
 //! what a returned number or count tells. Loops over words are written out: the
@@ -30,6 +30,7 @@ macro_rules! with_set {
 pub mod bits;
 pub mod codes;
 pub mod dealer;
+mod elimination;
 pub mod evaluator;
 mod frame;
 pub mod join;
@@ -44,6 +45,8 @@ pub mod unit;
 mod tests;
 #[cfg(test)]
 mod tests_of_calls;
+#[cfg(test)]
+mod tests_of_ties;
 
 /// The lengths of the set whose strings have so many words.
 #[inline(always)]

@@ -5,6 +5,7 @@
 
 pub mod fast;
 pub mod guarded;
+pub mod matrices;
 pub mod random;
 pub mod reference;
 pub mod samples;

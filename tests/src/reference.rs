@@ -1,5 +1,5 @@
-//! Document 01, with the sampler and the sets of document 02, in Rust, sentence by
-//! sentence: plain rather than fast, and total: no function panics on any input.
+//! Document 01, with what document 02 has changed, in Rust, sentence by sentence:
+//! plain rather than fast, and total: no function panics on any input.
 //! Sentences that name a size of set 1 are read with that of the shape.
 //!
 //! A byte past the end of a string counts as 0 in the functions of `bits` and
@@ -7,6 +7,7 @@
 
 pub mod bits;
 pub mod dealer;
+pub mod elimination;
 pub mod evaluator;
 pub mod frame;
 pub mod join;
@@ -22,3 +23,5 @@ pub mod unit;
 mod examples;
 #[cfg(test)]
 mod laws;
+#[cfg(test)]
+mod ties;

@@ -1,8 +1,9 @@
 //! Random inputs that the calls accept, and single faults put into them.
 
+use crate::matrices;
 use crate::random::Random;
 use crate::reference::matrix::{
-    block_of, block_sums, file_of_rows, row_place, rows_end, BLOCK_BYTES, CHECK_AT,
+    block_of, block_sums, file_of_rows, row_place, rows_end, rows_of_file, BLOCK_BYTES, CHECK_AT,
 };
 use crate::reference::program::Inputs;
 use crate::reference::shape::{Shape, SETS};
@@ -15,31 +16,14 @@ pub fn fit_vector(random: &mut Random, shape: Shape) -> Vec<u8> {
     pack_trits(shape.string_bytes(), |j| trits[j])
 }
 
-/// A fit row: not all zero.
-fn fit_row(random: &mut Random, shape: Shape) -> Vec<u8> {
-    let row = fit_vector(random, shape);
-    match row.iter().all(|byte| *byte == 0) {
-        true => row_with_one_trit(random, shape),
-        false => row,
-    }
-}
-
-/// A row with a single 1 or 2, the nearest to a zero row.
-fn row_with_one_trit(random: &mut Random, shape: Shape) -> Vec<u8> {
-    let place = random.below(shape.bits);
-    let trit = 1 + random.below(2) as u8;
-    pack_trits(shape.string_bytes(), |j| if j == place { trit } else { 0 })
-}
-
 /// A fit row set.
 pub fn fit_rows(random: &mut Random, shape: Shape) -> Vec<u8> {
-    (0..shape.digits).flat_map(|_| fit_row(random, shape)).collect()
+    matrices::packed(shape, &matrices::fit(random, shape))
 }
 
 /// "matrix row i having trit 1 in column i alone"
 pub fn diagonal_file(shape: Shape) -> Vec<u8> {
-    let row = |i: usize| pack_trits(shape.string_bytes(), |j| u8::from(i == j));
-    file_of_rows(shape, &(0..shape.digits).flat_map(row).collect::<Vec<u8>>())
+    matrices::file_of(shape, &matrices::diagonal(shape))
 }
 
 /// A fit matrix file.
@@ -87,17 +71,19 @@ pub enum FileFault {
     UnusedByte,
     UnfitTrit,
     ZeroRow,
+    TiedRows,
 }
 
-pub const FILE_FAULTS: [FileFault; 5] = [
+pub const FILE_FAULTS: [FileFault; 6] = [
     FileFault::Check,
     FileFault::Header,
     FileFault::UnusedByte,
     FileFault::UnfitTrit,
     FileFault::ZeroRow,
+    FileFault::TiedRows,
 ];
 
-/// One of the 32 choices of faults, by the bits of a number.
+/// One of all choices of faults, by the bits of a number.
 pub fn chosen_faults(choice: usize) -> Vec<FileFault> {
     let chosen = FILE_FAULTS.into_iter().enumerate().filter(|(i, _)| choice >> i & 1 == 1);
     chosen.map(|(_, fault)| fault).collect()
@@ -140,6 +126,14 @@ fn damage_content(random: &mut Random, shape: Shape, file: &mut [u8], fault: Fil
             let start = row_place(shape, random.below(shape.digits));
             if let Some(row) = file.get_mut(start..start + shape.vector_bytes()) {
                 row.fill(0);
+            }
+        }
+        FileFault::TiedRows => {
+            let rows = rows_of_file(shape, file);
+            let (i, row) = matrices::tie_in_rows(random, shape, &rows);
+            let start = row_place(shape, i);
+            if let Some(tied) = file.get_mut(start..start + shape.vector_bytes()) {
+                tied.copy_from_slice(&row);
             }
         }
     }

@@ -122,7 +122,7 @@ fn compare(random: &mut Random, folder: &Path, files: &Files) -> (u32, String) {
 type Fault = fn(&mut Random, &mut Files);
 
 /// Single faults, each with its number.
-const FAULTS: [(u32, Fault); 15] = [
+const FAULTS: [(u32, Fault); 16] = [
     (1, |_, files| files.matrix.truncate(files.shape.file_bytes() - 1)),
     (1, |_, files| files.matrix.push(0)),
     (1, |_, files| files.matrix.clear()),
@@ -130,6 +130,7 @@ const FAULTS: [(u32, Fault); 15] = [
     (9, |random, files| damage(random, files, FileFault::UnusedByte)),
     (10, |random, files| damage(random, files, FileFault::UnfitTrit)),
     (12, |random, files| damage(random, files, FileFault::ZeroRow)),
+    (12, |random, files| damage(random, files, FileFault::TiedRows)),
     (3, |random, files| files.shares[random.below(2)].truncate(HEADER_BYTES - 1)),
     (3, |random, files| files.shares[random.below(2)][0] = 3),
     (4, |random, files| files.shares[random.below(2)].push(0)),

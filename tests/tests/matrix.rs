@@ -2,44 +2,18 @@
 //! writer, reader and check, on fit, damaged, cut and random files.
 
 mod interface;
+mod matrix_calls;
 
-use service_pair_tests::guarded::compare;
+use matrix_calls::{compare_file, compare_fully, compare_rows};
 use service_pair_tests::random::{report, Random};
 use service_pair_tests::reference::matrix::{self, BLOCK_BYTES, CHECK_AT, ROWS_AT, SET_AT};
-use service_pair_tests::reference::numbers::{Answer, NO_SET};
-use service_pair_tests::reference::shape::{with_set, Shape, SETS, SET_1, SET_2, SET_3};
+use service_pair_tests::reference::numbers::NO_SET;
+use service_pair_tests::reference::shape::{Shape, SETS, SET_1, SET_2, SET_3};
 use service_pair_tests::reference::trits::pack_trits;
 use service_pair_tests::samples::{
     change, chosen_faults, damage_file, diagonal_file, fit_file, fit_rows, lengths_of_sets, seal,
     set_both_bits, FAULT_CHOICES, NO_SETS,
 };
-
-/// Compares check and reader on one file; gives the number back.
-fn compare_file(random: &mut Random, set: u32, file: &[u8], room: usize) -> u32 {
-    let checked = with_set(set, |shape| Answer::refused(matrix::matrix_check(shape, file)));
-    compare(random, "pair_matrix_check", [file], 0, &checked, |[file], _| {
-        interface::matrix_check(set, file)
-    });
-    let read = with_set(set, |shape| matrix::matrix_read(shape, file, room));
-    compare(random, "pair_matrix_read", [file], room, &read, |[file], out| {
-        interface::matrix_read(set, file, out)
-    });
-    checked.number
-}
-
-/// `compare_file` in the shape's set, with an output slice that is just long enough.
-fn compare_fully(random: &mut Random, shape: Shape, file: &[u8]) -> u32 {
-    compare_file(random, shape.set, file, shape.row_set_bytes())
-}
-
-/// Compares the writer on one row set; gives the number back.
-fn compare_rows(random: &mut Random, set: u32, rows: &[u8], room: usize) -> u32 {
-    let written = with_set(set, |shape| matrix::matrix_write(shape, rows, room));
-    compare(random, "pair_matrix_write", [rows], room, &written, |[rows], out| {
-        interface::matrix_write(set, rows, out)
-    });
-    written.number
-}
 
 /// An output slice that is long enough, exactly or with bytes to spare.
 fn enough(random: &mut Random, least: usize) -> usize {
@@ -243,9 +217,13 @@ fn bytes_0_and_255_are_told_apart() {
     let mut random = Random::for_test("0 and 255");
     let mut count = 0;
     for shape in SETS {
-        // Planes of the bytes 255 and 0 in turn, and of zeros.
-        let row = pack_trits(shape.string_bytes(), |j| u8::from(j / 8 % 2 == 0));
-        let fit = matrix::file_of_rows(shape, &row.repeat(shape.digits));
+        // A diagonal, and behind it planes of the bytes 255 and 0 in turn, and of zeros.
+        let behind = 8 * shape.code_plane();
+        let digit = |i, j| u8::from(if j < behind { i == j } else { j / 8 % 2 == 0 });
+        let row = |i: usize| pack_trits(shape.string_bytes(), |j| digit(i, j));
+        let rows: Vec<u8> = (0..shape.digits).flat_map(row).collect();
+        let fit = matrix::file_of_rows(shape, &rows);
+        assert_eq!(compare_fully(&mut random, shape, &fit), 0);
         for place in places(&mut random, shape) {
             let turned = match fit[place] {
                 0 => 0xff,
@@ -313,7 +291,7 @@ fn every_output_length_is_judged() {
 #[test]
 fn the_lowest_of_several_faults_is_told() {
     let mut random = Random::for_test("several faults");
-    let rounds = 25;
+    let rounds = 13;
     for shape in SETS {
         let mut seen = [0; 13];
         for choice in (0..rounds).flat_map(|_| 0..FAULT_CHOICES) {

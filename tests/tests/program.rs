@@ -1,6 +1,7 @@
 //! The program over standard input, which is of set 1: its sample, every number
 //! that it can give, combinations where the lowest wins, and input of any length.
 
+use service_pair_tests::matrices::{file_of, stated_matrix, stated_ties};
 use service_pair_tests::random::{report, seed, Random};
 use service_pair_tests::reference::program::{program, Inputs, INPUT_BYTES};
 use service_pair_tests::reference::shape::SET_1;
@@ -104,6 +105,23 @@ fn each_fault_and_the_lowest_of_several() {
         }
     }
     report("program: inputs with faults", count);
+}
+
+/// The ties that the request names, each with a fit tape and with an unfit one.
+#[test]
+fn tied_rows_print_result_12() {
+    let mut random = Random::for_test("program ties");
+    let ties = stated_ties().into_iter().filter(|(shape, ..)| *shape == SET_1);
+    let mut count = 0;
+    for (_, row, terms) in ties {
+        let mut inputs = fit_inputs(&mut random, SET_1);
+        inputs.file = file_of(SET_1, &stated_matrix(SET_1, row, &terms));
+        assert_eq!(compare(&inputs.bytes()), "result 12\n", "row {row} is {terms:?}");
+        set_both_bits(&mut random, SET_1, &mut inputs.tape, SET_1.copied_bytes());
+        assert_eq!(compare(&inputs.bytes()), "result 10\n", "row {row} is {terms:?}");
+        count += 2;
+    }
+    report("program: inputs with tied rows", count);
 }
 
 #[test]

@@ -9,12 +9,17 @@ use Rattle.numbers.specs.Sets.{isSet, counted, numberIn}
 use Rattle.numbers.proofs.Sets.{each, counted-set, counted-is, own-number, other-number, number-none, number-of}
 use Rattle.matrix_model.specs.Block.{Layout}
 use Rattle.matrix_model.specs.File.{Fits, layoutOf}
+use Rattle.matrix_model.specs.Internal.Rows.{Eliminable}
 use Rattle.matrix_model.proofs.Layouts.{first-fits, second-fits, third-fits}
+use Rattle.matrix_model.proofs.Internal.TiedRows.{first-eliminable, second-eliminable, third-eliminable}
 
 -- the layout l that is counted for a number
 module _ (set : ℕ) {l : Layout} (e : l ≡ layoutOf (counted set)) where
-  pub counted-fits : Fits l
-  counted-fits = subst Fits (sym e) (each (λ set. Fits (layoutOf set)) first-fits second-fits third-fits (counted set) (counted-set set))
+  pub counted-fits : Fits l × Eliminable l
+  counted-fits =
+      subst (λ (l : Layout). Fits l × Eliminable l) (sym e)
+      (each (λ set. Fits (layoutOf set) × Eliminable (layoutOf set)) (first-fits, first-eliminable) (second-fits, second-eliminable) (third-fits, third-eliminable) (counted set)
+      (counted-set set))
 
   says : l .set ≡ counted set
   says = ap (λ (l : Layout). l .set) e

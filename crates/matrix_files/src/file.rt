@@ -1,4 +1,4 @@
-// A matrix file of any layout that fits: its check, its reader and its writer. Each first decides its number, over the whole of what
+// A matrix file of any layout that fits, with room for the elimination: its check, its reader and its writer. Each first decides its number, over the whole of what
 // it reads, and then writes.
 ghost use mathlib.Core.Path.{_≡_};
 ghost use mathlib.Core.List.{_++_};
@@ -6,6 +6,7 @@ ghost use Prim.Native.Nat.{_≤_};
 ghost use lib.ListN.{length, take, drop};
 ghost use Rattle.numbers.specs.Number.{first};
 ghost use Rattle.matrix_model.specs.File.{Fits, fileSize, rowsSize, rowsOf, fileFrom, faultsOf, checkNumberOf, readNumberOf, writeNumberOf, readOutputOf, writeOutputOf, SurvivesOf, RestoresOf};
+ghost use Rattle.matrix_model.specs.Internal.Rows.{Eliminable};
 ghost use Rattle.matrix_blocks.specs.Layouts.{layoutIn};
 use linear_words::copies::put;
 use matrix_blocks::blocks::block_of;
@@ -18,7 +19,7 @@ use matrix_blocks::faults::bad_check;
 use matrix_blocks::faults::bad_layout;
 use matrix_blocks::layouts::Layout;
 use matrix_model::sizes::BLOCK_BYTES;
-use matrix_rows::rows::all_rows_number;
+use matrix_ties::ties::all_rows_number;
 use numbers::table::BLOCK_CHECK;
 use numbers::table::BLOCK_LAYOUT;
 use numbers::table::DONE;
@@ -26,7 +27,7 @@ use numbers::table::WRONG_LENGTH;
 
 // The number of a file of the right length: a check over all blocks before any layout, and so on.
 fn file_number(layout: Layout, file: &[u8]) -> u32
-    requires { ⌜ Fits (layoutIn layout) × (length (now file) ≡ fileSize (layoutIn layout)) ⌝ }
+    requires { ⌜ Fits (layoutIn layout) × Eliminable (layoutIn layout) × (length (now file) ≡ fileSize (layoutIn layout)) ⌝ }
     ensures { λ r. ⌜ r ≡ first (faultsOf (layoutIn layout) (now (file .entry))) ⌝ }
 {
     if bad_check(layout, file) {
@@ -40,7 +41,7 @@ fn file_number(layout: Layout, file: &[u8]) -> u32
 
 // The number of any bytes.
 pub fn file_check(layout: Layout, file: &[u8]) -> u32
-    requires { ⌜ Fits (layoutIn layout) ⌝ }
+    requires { ⌜ Fits (layoutIn layout) × Eliminable (layoutIn layout) ⌝ }
     ensures { λ r. ⌜ r ≡ checkNumberOf (layoutIn layout) (now (file .entry)) ⌝ }
 {
     if file.len() != file_size(layout) {
@@ -78,7 +79,7 @@ fn write_blocks(layout: Layout, rows: &[u8], out: &mut [u8])
 
 // The reader.
 pub fn file_read(layout: Layout, file: &[u8], out: &mut [u8]) -> u32
-    requires { ⌜ Fits (layoutIn layout) ⌝ }
+    requires { ⌜ Fits (layoutIn layout) × Eliminable (layoutIn layout) ⌝ }
     ensures result { λ r. ⌜ r ≡ readNumberOf (layoutIn layout) (now (file .entry)) (length (now (out .entry))) ⌝ }
     ensures output { λ _. ⌜ now (out .exit) ≡ readOutputOf (layoutIn layout) (now (file .entry)) (now (out .entry)) ⌝ }
     ensures round_trip { λ r. ⌜ (r ≡ 0 → RestoresOf (layoutIn layout) (take (rowsSize (layoutIn layout)) (now (out .exit))) (now (file .entry))) ⌝ }
@@ -96,7 +97,7 @@ pub fn file_read(layout: Layout, file: &[u8], out: &mut [u8]) -> u32
 
 // The writer.
 pub fn file_write(layout: Layout, rows: &[u8], out: &mut [u8]) -> u32
-    requires { ⌜ Fits (layoutIn layout) ⌝ }
+    requires { ⌜ Fits (layoutIn layout) × Eliminable (layoutIn layout) ⌝ }
     ensures result { λ r. ⌜ r ≡ writeNumberOf (layoutIn layout) (now (rows .entry)) (length (now (out .entry))) ⌝ }
     ensures output { λ _. ⌜ now (out .exit) ≡ writeOutputOf (layoutIn layout) (now (rows .entry)) (now (out .entry)) ⌝ }
     ensures round_trip { λ r. ⌜ (r ≡ 0 → SurvivesOf (layoutIn layout) (now (rows .entry)) (take (fileSize (layoutIn layout)) (now (out .exit)))) ⌝ }

@@ -7,5 +7,6 @@ pub mod Groups
 pub mod Blocks
 pub mod Rows
 pub mod RowNumbers
+pub mod TiedRows
 pub mod Digits
 pub mod Reading

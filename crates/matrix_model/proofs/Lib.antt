@@ -8,5 +8,7 @@ pub mod Rows
 pub mod WrittenBlocks
 pub mod RoundTrip
 pub mod Examples
+pub mod PackedRows
 pub mod Sample
+pub mod TieEvidence
 pub mod Internal

@@ -1,87 +1,55 @@
--- The matrix of the paper's sample is fit.
-use Prim.Native.Nat.{ℕ, _+_, _*_, _/_, _%_, _<_}
-use mathlib.Core.Path.{_≡_, refl, ap, ap₂, _∙_, subst}
-use mathlib.Core.List.{List}
-use mathlib.Core.Bool.{Bool, true, false, not, cond}
-use native.Mathlib.Omega.{arith}
-use borrow.Author.Tests.{eq-eqb}
-use lib.Dec.{T, ltb, eqb, lit<, lt→ltb}
-use lib.ListN.{length, getD, drop}
-use lib.Seq.{getD-drop}
-use Rattle.linear_model.specs.Bits.{bitAt, bit}
-use Rattle.linear_model.specs.Tables.{every}
-use Rattle.linear_model.specs.Trits.{trit, packTrits, fitTrit, fitTrits, zeroTrit, zeroTrits}
-use Rattle.linear_model.proofs.Tables.{length-tabulate, getD-tabulate, every-at}
-use Rattle.linear_model.proofs.Vectors.{trit-pack}
-use Rattle.numbers.proofs.Numbers.{is-true, first-zero}
-use Rattle.matrix_model.specs.File.{matrixB, fitRow, nonzeroRow, badTritOf, zeroRowOf, rowFaultsOf, SurvivesOf}
-use Rattle.matrix_model.specs.Sample.{oneAt, diagonalByte, diagonalRows, sampleFile}
-use Rattle.matrix_model.proofs.Tests.{every-true}
+-- The matrix of the paper's sample is fit, and so are the diagonal rows of every layout with no more rows than columns.
+use Prim.Native.Nat.{ℕ, _*_, _%_, _<_, _≤_}
+use mathlib.Core.Path.{_≡_, refl, sym, ap, _∙_}
+use mathlib.Core.Bool.{Bool, true, false, cond}
+use lib.Dec.{T, eqb, eqb→eq, lit<, lit≤}
+use lib.ListN.{drop}
+use Rattle.linear_model.specs.Trits.{trit}
+use Rattle.linear_model.proofs.Tables.{bool-ext}
+use Rattle.elimination_model.proofs.Independence.{unit, tied-congr}
+use Rattle.elimination_model.proofs.Elimination.{diagonal-untied}
+use Rattle.numbers.proofs.Numbers.{first-zero, equal, holds}
+use Rattle.matrix_model.specs.Block.{Layout}
+use Rattle.matrix_model.specs.File.{Fits, matrixB, rowPlaneOf, fileFrom, tiedRowsOf, rowFaultsOf, SurvivesOf}
+use Rattle.matrix_model.specs.Sample.{oneAt, diagonalRows, sampleFile}
 use Rattle.matrix_model.proofs.RoundTrip.{survives}
 use Rattle.matrix_model.proofs.Layouts.{first-fits}
+use Rattle.matrix_model.proofs.PackedRows.{length-packed, packed-trit, packed-fit, packed-tied}
 
-abbrev rows : List ℕ
-rows = diagonalRows matrixB
-
-long : length rows ≡ 5184
-unfolding diagonalRows
-long = length-tabulate 5184 (diagonalByte matrixB)
-
-one-at-lt : (i j : ℕ) → oneAt i j < 2
-one-at-lt i j = go (eqb i j)
+-- a digit is 0 or 1
+pub one-at-small : (i j : ℕ) → oneAt i j < 3
+one-at-small i j = go (eqb i j)
   where
-    go : (b : Bool) → cond b 1 0 < 2
+    go : (b : Bool) → cond b 1 0 < 3
     go true = lit< tt
     go false = lit< tt
 
-module _ (i : ℕ) (l : i < 81) where
-  abbrev row : List ℕ
-  row = drop (64 * i) rows
+-- row i is the unit row that has its 1 in column i
+one-at-unit : (i j : ℕ) → oneAt i j ≡ unit i j
+one-at-unit i j = ap (λ (b : Bool). cond b 1 0) (bool-ext (eqb i j) (eqb j i) (turned i j) (turned j i))
+  where
+    turned : (i j : ℕ) → T (eqb i j) → T (eqb j i)
+    turned i j t = holds (eqb j i) (equal j i (sym (eqb→eq i j t)))
 
-  byte : (b : ℕ) → b < 64 → getD row b 0 ≡ getD (packTrits 32 (oneAt i)) b 0
-  unfolding diagonalRows
-  byte b m =
-      getD-drop (64 * i) rows b 0
-      ∙ getD-tabulate 5184 (diagonalByte matrixB) (64 * i + b) (omega arith)
-      ∙ ap₂ (λ (x y : ℕ). getD (packTrits 32 (oneAt x)) y 0) (omega arith) (omega arith)
+module _ (layout : Layout) (fits : Fits layout) (columns : layout .rowCount ≤ 8 * rowPlaneOf layout) where
+  -- the diagonal rows are not tied
+  diagonal-rows-untied : tiedRowsOf layout (diagonalRows layout) ≡ false
+  diagonal-rows-untied =
+      packed-tied layout (fits .two-planes) oneAt one-at-small
+      ∙ tied-congr (8 * rowPlaneOf layout) (layout .rowCount) oneAt unit (λ i j l m. ap (λ (x : ℕ). x % 3) (one-at-unit i j))
+      ∙ diagonal-untied (8 * rowPlaneOf layout) (layout .rowCount) columns
 
-  bit-is : (j : ℕ) → j < 512 → bit row j ≡ bit (packTrits 32 (oneAt i)) j
-  unfolding bit
-  bit-is j m = ap (λ (x : ℕ). bitAt x (j % 8)) (byte (j / 8) (omega arith))
+  -- so their file is fit, and has these rows
+  pub diagonal-survives : SurvivesOf layout (diagonalRows layout) (fileFrom layout (diagonalRows layout))
+  unfolding rowFaultsOf
+  diagonal-survives =
+      survives layout fits (diagonalRows layout) (length-packed layout oneAt)
+      (first-zero (rowFaultsOf layout (diagonalRows layout)) (packed-fit layout (fits .two-planes) oneAt one-at-small, (diagonal-rows-untied, tt)))
 
-  trit-as-packed : (j : ℕ) → j < 256 → trit 32 row j ≡ trit 32 (packTrits 32 (oneAt i)) j
-  unfolding trit
-  trit-as-packed j m = ap₂ (λ (x y : ℕ). x + 2 * y) (bit-is j (omega arith)) (bit-is (256 + j) (omega arith))
+-- the sample's: trit j of row i
+pub trit-is : (i : ℕ) → i < 81 → (j : ℕ) → j < 256 → trit 32 (drop (64 * i) (diagonalRows matrixB)) j ≡ oneAt i j
+trit-is = packed-trit matrixB refl oneAt one-at-small
 
-  -- trit j of row i
-  pub trit-is : (j : ℕ) → j < 256 → trit 32 row j ≡ oneAt i j
-  trit-is j m = trit-as-packed j m ∙ trit-pack 32 (oneAt i) (λ k. omega (arith, one-at-lt i k)) j m
-
-  row-fits : fitRow matrixB rows i ≡ true
-  unfolding fitTrits
-  row-fits = every-true 256 (fitTrit 32 row) (λ j m. is-true (ltb (trit 32 row j) 3) (lt→ltb (trit 32 row j) 3 (rw (trit-is j m) (omega (arith, one-at-lt i j)))))
-
-  -- the one at place i shows that the row is not all zero
-  row-not-zero : nonzeroRow matrixB rows i ≡ true
-  unfolding zeroTrits
-  row-not-zero = ap not (go (every 256 (zeroTrit 32 0 row)) (every-at 256 (zeroTrit 32 0 row)))
-    where
-      one : trit 32 row (0 + i) ≡ 1
-      one = ap (trit 32 row) (omega arith) ∙ trit-is i (omega arith) ∙ ap (λ (b : Bool). cond b 1 0) (eq-eqb i i refl)
-
-      go : (b : Bool) → (T b → (j : ℕ) → j < 256 → T (zeroTrit 32 0 row j)) → b ≡ false
-      go false h = refl
-      go true h = absurd (subst (λ (x : ℕ). T (eqb x 0)) one (h tt i (omega arith)))
-
-no-bad-trit : badTritOf matrixB rows ≡ false
-unfolding badTritOf
-no-bad-trit = ap not (every-true 81 (fitRow matrixB rows) row-fits)
-
-no-zero-row : zeroRowOf matrixB rows ≡ false
-unfolding zeroRowOf
-no-zero-row = ap not (every-true 81 (nonzeroRow matrixB rows) row-not-zero)
-
--- so its file is fit, and has these rows
+-- and its file
 pub sample-survives : SurvivesOf matrixB (diagonalRows matrixB) sampleFile
-unfolding rowFaultsOf
-sample-survives = survives matrixB first-fits rows long (first-zero (rowFaultsOf matrixB rows) (no-bad-trit, (no-zero-row, tt)))
+sample-survives = diagonal-survives matrixB first-fits (lit≤ tt)

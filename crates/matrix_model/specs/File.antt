@@ -6,8 +6,9 @@ use mathlib.Core.Bool.{Bool, not}
 use lib.Dec.{eqb, ltb}
 use lib.ListN.{length, getD, take, drop}
 use Rattle.linear_model.specs.Tables.{tabulate, every}
-use Rattle.linear_model.specs.Trits.{fitTrits, zeroTrits}
+use Rattle.linear_model.specs.Trits.{fitTrits}
 use Rattle.linear_model.specs.Products.{planeBytes, rowsFrom}
+use Rattle.elimination_model.specs.Independence.{tiedRows}
 use Rattle.numbers.specs.Number.{Condition, _when_, first, output}
 use Rattle.numbers.specs.Sets.{setBits, setDigits, blockRows, numberIn}
 use Rattle.matrix_model.specs.Block.{Layout, blockBytes, headBytes, checkedBytes, checkHolds, laidOut, blockOf}
@@ -73,12 +74,9 @@ rowPlaneOf layout = layout .rowBytes / 2
 abbrev pub codePlaneOf : Layout → ℕ
 codePlaneOf layout = planeBytes (layout .rowCount)
 
--- row i has no trit with both bits set, and is not all zero
+-- row i has no trit with both bits set
 abbrev pub fitRow : Layout → List ℕ → ℕ → Bool
 fitRow layout rows i = fitTrits (rowPlaneOf layout) (8 * rowPlaneOf layout) (rowsFrom (rowPlaneOf layout) rows i)
-
-abbrev pub nonzeroRow : Layout → List ℕ → ℕ → Bool
-nonzeroRow layout rows i = not (zeroTrits (rowPlaneOf layout) 0 (rowsFrom (rowPlaneOf layout) rows i))
 
 -- 8: a block's check differs
 unfoldable pub badCheckOf : Layout → List ℕ → Bool
@@ -92,19 +90,19 @@ badLayoutOf layout file = not (every (blockCount layout) (laidOutBlock layout fi
 unfoldable pub badTritOf : Layout → List ℕ → Bool
 badTritOf layout rows = not (every (layout .rowCount) (fitRow layout rows))
 
--- 12: a row is all zero, among rows
-unfoldable pub zeroRowOf : Layout → List ℕ → Bool
-zeroRowOf layout rows = not (every (layout .rowCount) (nonzeroRow layout rows))
+-- 12: the rows are tied: a choice of digits, not all 0, makes the rows so multiplied add to the zero row modulo 3
+unfoldable pub tiedRowsOf : Layout → List ℕ → Bool
+tiedRowsOf layout rows = tiedRows (rowPlaneOf layout) (layout .rowCount) rows
 
 -- what rows may be refused for, in the table's order
 unfoldable pub rowFaultsOf : Layout → List ℕ → List Condition
-rowFaultsOf layout rows = (10 when badTritOf layout rows) ∷ (12 when zeroRowOf layout rows) ∷ []
+rowFaultsOf layout rows = (10 when badTritOf layout rows) ∷ (12 when tiedRowsOf layout rows) ∷ []
 
 -- and a file of the right length
 unfoldable pub faultsOf : Layout → List ℕ → List Condition
 faultsOf layout file =
     (8 when badCheckOf layout file) ∷ (9 when badLayoutOf layout file)
-    ∷ (10 when badTritOf layout (rowsOf layout file)) ∷ (12 when zeroRowOf layout (rowsOf layout file)) ∷ []
+    ∷ (10 when badTritOf layout (rowsOf layout file)) ∷ (12 when tiedRowsOf layout (rowsOf layout file)) ∷ []
 
 -- the matrix check
 abbrev pub checkConditionsOf : Layout → List ℕ → List Condition

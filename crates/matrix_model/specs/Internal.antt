@@ -1,4 +1,4 @@
--- What only contracts of private functions cite.
+-- What contracts of inner functions cite; no contract of `matrix` or `protocol` does.
 pub mod Lanes
 pub mod Rows
 pub mod Digits

@@ -1,4 +1,5 @@
 pub mod Block
 pub mod File
 pub mod Sample
+pub mod TieEvidence
 pub mod Internal

@@ -1,4 +1,4 @@
--- The matrix of the paper's sample: row i has trit 1 in column i alone.
+-- Rows of given trits, and the matrix of the paper's sample: row i has trit 1 in column i alone.
 use Prim.Native.Nat.{ℕ, _/_, _%_}
 use mathlib.Core.List.{List}
 use mathlib.Core.Bool.{cond}
@@ -7,18 +7,23 @@ use lib.ListN.{getD}
 use Rattle.linear_model.specs.Tables.{tabulate}
 use Rattle.linear_model.specs.Trits.{packTrits}
 use Rattle.matrix_model.specs.Block.{Layout}
-use Rattle.matrix_model.specs.File.{rowsSize, fileFrom, matrixB}
+use Rattle.matrix_model.specs.File.{rowsSize, rowPlaneOf, fileFrom, matrixB}
+
+-- byte k of the rows whose trit j in row i is `trits i j`
+abbrev pub packedByte : Layout → (ℕ → ℕ → ℕ) → ℕ → ℕ
+packedByte layout trits k = getD (packTrits (rowPlaneOf layout) (trits (k / layout .rowBytes))) (k % layout .rowBytes) 0
+
+-- these rows, one after the other
+unfoldable pub packedRows : Layout → (ℕ → ℕ → ℕ) → List ℕ
+packedRows layout trits = tabulate (rowsSize layout) (packedByte layout trits)
 
 -- 1 at place i, and 0 elsewhere
 abbrev pub oneAt : ℕ → ℕ → ℕ
 oneAt i j = cond (eqb i j) 1 0
 
--- byte k of the rows
-abbrev pub diagonalByte : Layout → ℕ → ℕ
-diagonalByte layout k = getD (packTrits (layout .rowBytes / 2) (oneAt (k / layout .rowBytes))) (k % layout .rowBytes) 0
-
-unfoldable pub diagonalRows : Layout → List ℕ
-diagonalRows layout = tabulate (rowsSize layout) (diagonalByte layout)
+-- the diagonal
+abbrev pub diagonalRows : Layout → List ℕ
+diagonalRows layout = packedRows layout oneAt
 
 -- the file of these rows
 abbrev pub sampleFile : List ℕ

@@ -1,2 +1,2 @@
-// The rows of the matrix file, judged.
+// The rows of the matrix file, each judged by itself.
 pub mod rows;

@@ -1,9 +1,8 @@
-// Rows are judged where they stand: in the blocks of a file, or one after the other.
+// Rows are judged one by one where they stand: in the blocks of a file, or one after the other.
 ghost use mathlib.Core.Path.{_≡_};
 ghost use Prim.Native.Nat.{_+_, _*_, _<_, _≤_};
 ghost use lib.ListN.{length, take, drop};
-ghost use Rattle.numbers.specs.Number.{first};
-ghost use Rattle.matrix_model.specs.File.{Fits, blockCount, rowFaultsOf, rowPlaneOf};
+ghost use Rattle.matrix_model.specs.File.{Fits, blockCount, rowPlaneOf};
 ghost use Rattle.matrix_model.specs.Internal.Rows.{rowsNumber, rowsHeld, heldBytes, rowsForBlock};
 ghost use Rattle.matrix_blocks.specs.Layouts.{layoutIn};
 use linear::trits::row_is_zero;
@@ -14,8 +13,8 @@ use matrix_blocks::counts::block_count;
 use matrix_blocks::counts::rows_in;
 use matrix_blocks::layouts::Layout;
 use numbers::table::DONE;
+use numbers::table::TIED_ROWS;
 use numbers::table::UNFIT_TRIT;
-use numbers::table::ZERO_ROW;
 
 // Row `i` of rows of `n` bytes one after the other.
 fn row_of(rows: &[u8], n: usize, i: usize) -> &[u8]
@@ -33,7 +32,7 @@ fn row_number(layout: Layout, row: &[u8], m: usize) -> u32
 {
     if planes_fit(row, m, 8 * m) {
         if row_is_zero(row) {
-            return ZERO_ROW;
+            return TIED_ROWS;
         }
         return DONE;
     }
@@ -80,7 +79,7 @@ fn block_number(layout: Layout, rows: &[u8], n: usize) -> u32
 }
 
 // The rows of block `b`, in the blocks of a file or one after the other.
-fn rows_at(layout: Layout, s: &[u8], in_blocks: bool, b: usize) -> &[u8]
+pub fn rows_at(layout: Layout, s: &[u8], in_blocks: bool, b: usize) -> &[u8]
     requires { ⌜ Fits (layoutIn layout) × (length (now s) ≡ heldBytes (layoutIn layout) «in_blocks») × (b < blockCount (layoutIn layout)) ⌝ }
     ensures { λ r. ⌜ now r ≡ rowsForBlock (layoutIn layout) (rowsHeld (layoutIn layout) «in_blocks» (now (s .entry))) b ⌝ }
 {
@@ -90,10 +89,11 @@ fn rows_at(layout: Layout, s: &[u8], in_blocks: bool, b: usize) -> &[u8]
     rows_for_block(layout, s, b)
 }
 
-// The number of all rows, block by block. Rows one after the other go the same way, so that `block_number` is called, and compiled, in one place.
-pub fn all_rows_number(layout: Layout, s: &[u8], in_blocks: bool) -> u32
+// The number of all rows by the tests of each row, block by block; rows tied without a zero row are not found here. Rows one after the other
+// go the same way, so that `block_number` is called, and compiled, in one place.
+pub fn each_row_number(layout: Layout, s: &[u8], in_blocks: bool) -> u32
     requires { ⌜ Fits (layoutIn layout) × (length (now s) ≡ heldBytes (layoutIn layout) «in_blocks») ⌝ }
-    ensures { λ r. ⌜ r ≡ first (rowFaultsOf (layoutIn layout) (rowsHeld (layoutIn layout) «in_blocks» (now (s .entry)))) ⌝ }
+    ensures { λ r. ⌜ r ≡ rowsNumber (layoutIn layout) (layoutIn layout .rowCount) (rowsHeld (layoutIn layout) «in_blocks» (now (s .entry))) ⌝ }
 {
     let blocks = block_count(layout);
     let mut number: u32 = DONE;

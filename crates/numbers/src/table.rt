@@ -34,8 +34,8 @@ pub const UNFIT_TRIT: u32 = 10;
 // An unused bit set in a share frame.
 pub const UNUSED_BIT: u32 = 11;
 
-// A row is all zero.
-pub const ZERO_ROW: u32 = 12;
+// The rows are tied.
+pub const TIED_ROWS: u32 = 12;
 
 // A source has too few bytes, or too few pairs other than 3.
 pub const SHORT_SOURCE: u32 = 13;

@@ -8,6 +8,7 @@ use Rattle.linear_model.proofs.Linearity.{circulant-bilinear}
 use Rattle.numbers.specs.Sets.{isSet, counted}
 use Rattle.numbers.proofs.Sets.{each, counted-set, counted-is}
 use Rattle.matrix_model.proofs.Layouts.{first-fits, second-fits, third-fits}
+use Rattle.matrix_model.proofs.Internal.TiedRows.{first-eliminable, second-eliminable, third-eliminable}
 use Rattle.pair_model.specs.Scheme.{Linear}
 use Rattle.pair_model.specs.Base.{schemeOf}
 use Rattle.pair_frames.specs.declared.sizes.Sizes.{Sizes}
@@ -24,13 +25,13 @@ pub set-is : (set : ℕ) → isSet set ≡ true → schemeIn (setSizes set) ≡ 
 set-is = each (λ set. schemeIn (setSizes set) ≡ schemeOf set) refl refl refl
 
 pub fits-1 : Fits (setSizes 1)
-fits-1 = record { key = lit≤ tt; inner = lit≤ tt; circulant = refl; share = lit≤ tt; file = first-fits }
+fits-1 = record { key = lit≤ tt; inner = lit≤ tt; circulant = refl; share = lit≤ tt; file = first-fits; rows = first-eliminable }
 
 fits-2 : Fits (setSizes 2)
-fits-2 = record { key = lit≤ tt; inner = lit≤ tt; circulant = refl; share = lit≤ tt; file = second-fits }
+fits-2 = record { key = lit≤ tt; inner = lit≤ tt; circulant = refl; share = lit≤ tt; file = second-fits; rows = second-eliminable }
 
 fits-3 : Fits (setSizes 3)
-fits-3 = record { key = lit≤ tt; inner = lit≤ tt; circulant = refl; share = lit≤ tt; file = third-fits }
+fits-3 = record { key = lit≤ tt; inner = lit≤ tt; circulant = refl; share = lit≤ tt; file = third-fits; rows = third-eliminable }
 
 pub set-fits : (set : ℕ) → isSet set ≡ true → Fits (setSizes set)
 set-fits = each (λ set. Fits (setSizes set)) fits-1 fits-2 fits-3

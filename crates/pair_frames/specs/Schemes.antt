@@ -6,6 +6,7 @@ use Rattle.matrix_model.specs.Block.{Layout}
 use Rattle.numbers.specs.Sets.{setBits, setDigits, blockRows}
 use Rattle.matrix_model.specs.File.{rowsOf}
 use Rattle.matrix_model.specs.File.{Fits as FitsBlocks}
+use Rattle.matrix_model.specs.Internal.Rows.{Eliminable}
 use Rattle.pair_model.specs.Scheme.{readsNothing, Scheme}
 use Rattle.pair_model.specs.Base.{matrixReading, blockFormat}
 use Rattle.pair_model.specs.StateSlice.{stringRoom}
@@ -40,10 +41,12 @@ schemeIn z =
 abbrev pub setSizes : ℕ → Sizes
 setSizes set = record { «key_bytes» = setBits set / 8; «inner_bytes» = setBits set / 8; digits = setDigits set; set = set; «block_rows» = blockRows set }
 
--- sizes whose strings have room in a unit's state, for a product that is circulant; a share frame is no longer than an open frame, for which a step has room
+-- sizes whose strings have room in a unit's state, for a product that is circulant; a share frame is no longer than an open frame, for which a step has room,
+-- and the rows of the file have room where they are judged together
 pub record Fits (z : Sizes) : Type 0 where
   pub key : z .«key_bytes» ≤ stringRoom
   pub inner : z .«inner_bytes» ≤ stringRoom
   pub circulant : z .«inner_bytes» ≡ z .«key_bytes»
   pub share : planeBytes (z .digits) ≤ z .«key_bytes»
   pub file : FitsBlocks (fileLayout z)
+  pub rows : Eliminable (fileLayout z)

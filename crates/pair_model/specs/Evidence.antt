@@ -7,6 +7,7 @@ use Rattle.numbers.specs.Number.{_when_, first}
 use Rattle.numbers.specs.Lowest.{Lowest}
 use Rattle.source_model.specs.Disjoint.{sampling}
 use Rattle.source_model.specs.Evidence.{DrawEvidence}
+use Rattle.matrix_model.specs.TieEvidence.{TieEvidence}
 use Rattle.pair_model.specs.Scheme.{Scheme, Side, other}
 use Rattle.pair_model.specs.Tape.{tapeBytes, Accepted}
 use Rattle.pair_model.specs.Unit.{idleStage, doneStage, takeDeal, takeOpen, step}
@@ -63,6 +64,8 @@ pub record Evidence : Type 0 where
       ListOf P run (start P run) es → Comparable P fixed run run (start P run) (start P run) (shared es)
   -- the laws stand at every number of bytes and digits, whatever a matrix file is; the three sets are instances
   pub anySize : (set n t : ℕ) (F : Format) → Laws (circulantScheme set n t F)
+  -- 12 is told exactly where W-204 says, and neither always nor never
+  pub ties : TieEvidence
   -- draws follow one another, and samplings that read a pair twice do not pass
   pub draws : DrawEvidence
   -- leaky and wrong protocols do not pass, in a scheme in which the protocol does; a step by the unit's own ways is the unit's

@@ -5,7 +5,7 @@ use mathlib.Core.Bool.{not, _||_}
 use lib.Dec.{ltb, eqb}
 use lib.ListN.{length}
 use Rattle.numbers.specs.Number.{Condition, _when_, first}
-use Rattle.matrix_model.specs.File.{rowsOf, badCheckOf, badLayoutOf, badTritOf, zeroRowOf, matrixB}
+use Rattle.matrix_model.specs.File.{rowsOf, badCheckOf, badLayoutOf, badTritOf, tiedRowsOf, matrixB}
 use Rattle.pair_model.specs.Scheme.{files, Scheme, Side, side0, side1, total, layoutBytes, field}
 use Rattle.pair_model.specs.Base.{base}
 use Rattle.pair_model.specs.Tape.{tapeBytes, unfitTape}
@@ -51,7 +51,7 @@ runConditions input outputLength =
     ∷ 8 when badCheckOf matrixB file
     ∷ 9 when badLayoutOf matrixB file
     ∷ 10 when (badTritOf matrixB (rowsOf matrixB file) || unfitTape base (inputTape base input))
-    ∷ 12 when zeroRowOf matrixB (rowsOf matrixB file)
+    ∷ 12 when tiedRowsOf matrixB (rowsOf matrixB file)
     ∷ []
 
 abbrev pub runNumber : List ℕ → ℕ → ℕ

@@ -11,8 +11,8 @@ pub fn evaluate(set: u32, key: &[u8], label: &[u8], file: &[u8], out: &mut [u8])
     with_set!(set, evaluate_of(key, label, file, out))
 }
 
-/// The same in one set. The rows are judged and multiplied in one pass, and the
-/// code is written if the file is fit.
+/// The same in one set. The rows are judged, but for ties, and multiplied in one
+/// pass, and the code is written if the file is fit.
 #[inline(never)]
 fn evaluate_of<const W: usize, const D: usize, const P: usize>(
     key: &[u8],

@@ -1,11 +1,19 @@
-//! The matrix file: judged in one pass, and its rows multiplied where they
-//! stand. A file is public, so it may be branched on.
+//! The matrix file: judged in one pass but for ties, and its rows multiplied where
+//! they stand. A file is public, so it may be branched on.
 
+use super::elimination::rows_are_tied;
 use super::rows::{row_digit, Digits};
 use super::trits::Vector;
 use super::{part, shape};
 use crate::reference::matrix::{BLOCK_BYTES, CHECK_AT, ROWS_AT};
-use crate::reference::numbers::{BLOCK_CHECK, BLOCK_LAYOUT, UNFIT_TRIT, WRONG_LENGTH, ZERO_ROW};
+use crate::reference::numbers::{BLOCK_CHECK, BLOCK_LAYOUT, TIED_ROWS, UNFIT_TRIT, WRONG_LENGTH};
+
+/// Where row i starts in a file.
+#[inline(always)]
+pub(super) fn row_place<const W: usize>(i: usize) -> usize {
+    let (block, row) = (i / shape(W).block_rows, i % shape(W).block_rows);
+    BLOCK_BYTES * block + ROWS_AT + 16 * W * row
+}
 
 /// The two sums of half a block, no remainder taken: 16 columns of 16 bytes are
 /// added side by side. A byte in row g and column j of 16 rows counts 16 - g
@@ -118,14 +126,14 @@ impl Faults {
         }
     }
 
-    /// The lowest number.
+    /// The lowest number, but for rows that are tied and none of them zero.
     #[inline(always)]
     fn number(&self) -> u32 {
         match self {
             Faults { check: true, .. } => BLOCK_CHECK,
             Faults { layout: true, .. } => BLOCK_LAYOUT,
             Faults { unfit: 1.., .. } => UNFIT_TRIT,
-            Faults { zero_row: true, .. } => ZERO_ROW,
+            Faults { zero_row: true, .. } => TIED_ROWS,
             _ => 0,
         }
     }
@@ -143,7 +151,10 @@ fn pass<const W: usize>(file: &[u8], visit: &mut impl Visit<W>) -> u32 {
     }
     let rows = shape(W).rows_in_block(last);
     faults.judge(part(file, BLOCK_BYTES * last), last, rows, visit);
-    faults.number()
+    match faults.number() {
+        0 if rows_are_tied::<W>(file) => TIED_ROWS,
+        number => number,
+    }
 }
 
 /// The number of a file, and its rows times a vector.

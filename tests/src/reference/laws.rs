@@ -5,19 +5,19 @@ use super::dealer::{bytes_of, deal, deal_source, pairs_of, sample, tape_accepted
 use super::evaluator::{code, evaluate};
 use super::frame::Shared;
 use super::join::join;
-use super::matrix::{matrix_check, matrix_read, matrix_write};
+use super::matrix::{file_of_rows, matrix_check, matrix_read, matrix_write};
 use super::pairing::paired_tape;
 use super::program::{pair_run, program, run_units, Inputs, SHARED};
 use super::shape::{Shape, SETS, SET_1};
 use super::trits::trits_fit;
 use super::unit::{begin, step, Step};
 use crate::random::Random;
-use crate::samples::{accepted_tape, fit_file, fit_inputs, fit_rows};
+use crate::samples::{accepted_tape, fit_file, fit_inputs, fit_rows, fit_vector};
 
 /// The three sets, and shapes that are no whole words, with one digit and with one
 /// more than a byte has places; their blocks hold one row, some or more than all.
 fn shapes() -> Vec<Shape> {
-    let odd = [(8, 1, 1), (8, 9, 4), (24, 1, 5), (24, 9, 3)];
+    let odd = [(8, 1, 1), (16, 9, 4), (24, 1, 5), (24, 9, 3)];
     let shape = |(bits, digits, block_rows)| Shape { set: 200, bits, digits, block_rows };
     SETS.into_iter().chain(odd.map(shape)).collect()
 }
@@ -55,6 +55,18 @@ fn a_fit_matrix_survives_its_file() {
         // A shape that differs in its set alone has other files.
         assert_eq!(matrix_check(Shape { set: shape.set + 1, ..shape }, &file), 9);
     });
+}
+
+/// No matrix has more rows than columns and is fit.
+#[test]
+fn more_rows_than_columns_are_tied() {
+    let shape = Shape { set: 200, bits: 8, digits: 9, block_rows: 4 };
+    let mut random = Random::for_test("more rows than columns");
+    for _ in 0..200 {
+        let rows: Vec<u8> = (0..9).flat_map(|_| fit_vector(&mut random, shape)).collect();
+        assert_eq!(matrix_write(shape, &rows, shape.file_bytes()).number, 12);
+        assert_eq!(matrix_check(shape, &file_of_rows(shape, &rows)), 12);
+    }
 }
 
 /// Both units' three steps in turn, as the view of either is made of.

@@ -1,11 +1,12 @@
 //! "Matrix file": blocks, checks, writer, reader and check.
 
 use super::bits::part;
+use super::elimination::tied;
 use super::numbers::{
-    lowest, Answer, Condition, BLOCK_CHECK, BLOCK_LAYOUT, UNFIT_TRIT, WRONG_LENGTH, ZERO_ROW,
+    lowest, Answer, Condition, BLOCK_CHECK, BLOCK_LAYOUT, TIED_ROWS, UNFIT_TRIT, WRONG_LENGTH,
 };
 use super::shape::Shape;
-use super::trits::{row_is_zero, trits_fit};
+use super::trits::{trit, trits_fit};
 
 /// "12 blocks of 512"
 pub const BLOCK_BYTES: usize = 512;
@@ -87,13 +88,17 @@ pub fn rows_of_file(shape: Shape, file: &[u8]) -> Vec<u8> {
     (0..shape.blocks()).flat_map(rows).collect()
 }
 
-/// 10 and 12 over a row set.
+/// The digits of all rows of a row set, a byte each.
+pub fn digit_rows(shape: Shape, rows: &[u8]) -> Vec<Vec<u8>> {
+    let digits =
+        |row: Vec<u8>| (0..shape.bits).map(|j| trit(&row, shape.string_bytes(), j)).collect();
+    (0..shape.digits).map(|i| digits(row(shape, rows, i))).collect()
+}
+
+/// 10 and 12 over a row set; rows with an unfit trit have no digits to be tied.
 fn row_conditions(shape: Shape, rows: &[u8]) -> [Condition; 2] {
-    let each_row = || (0..shape.digits).map(|i| row(shape, rows, i));
-    [
-        (UNFIT_TRIT, each_row().any(|row| !trits_fit(&row, shape.bits))),
-        (ZERO_ROW, each_row().any(|row| row_is_zero(&row))),
-    ]
+    let unfit = (0..shape.digits).any(|i| !trits_fit(&row(shape, rows, i), shape.bits));
+    [(UNFIT_TRIT, unfit), (TIED_ROWS, !unfit && tied(digit_rows(shape, rows)))]
 }
 
 /// The conditions of a call that reads a matrix file, over the whole file;

@@ -26,8 +26,9 @@ pub const BLOCK_LAYOUT: u32 = 9;
 pub const UNFIT_TRIT: u32 = 10;
 /// "an unused bit set in a share frame"
 pub const UNUSED_BIT: u32 = 11;
-/// "a row is all zero"
-pub const ZERO_ROW: u32 = 12;
+/// "such a choice exists": of digits, not all 0, that "makes the rows so multiplied
+/// add to the zero row modulo 3". "A zero row remains a case of it".
+pub const TIED_ROWS: u32 = 12;
 /// "a source of 2^62 bytes or more (64 bits would not count its pairs), fewer
 /// than 768 pairs from the start, or fewer than 256 other than 3 after those";
 /// "13's counts follow from n and t".

@@ -300,7 +300,7 @@ fn beginnings_at_the_lengths_of_every_set() {
 }
 
 /// Compares `pair_run` and gives its number back.
-fn compare_run(random: &mut Random, input: &[u8], room: usize) -> u32 {
+pub fn compare_run(random: &mut Random, input: &[u8], room: usize) -> u32 {
     let expected = program::pair_run(input, room);
     compare(random, "pair_run", [input], room, &expected, |[input], out| {
         interface::run(input, out)
@@ -311,7 +311,7 @@ fn compare_run(random: &mut Random, input: &[u8], room: usize) -> u32 {
 #[test]
 fn whole_runs_in_one_call() {
     let mut random = Random::for_test("pair_run");
-    let (rounds, least, mut count) = (6, SET_1.code_bytes(), 0);
+    let (rounds, least, mut count) = (3, SET_1.code_bytes(), 0);
     // Every choice of the file's faults, with a fit tape and an unfit one.
     for choice in (0..rounds).flat_map(|_| 0..FAULT_CHOICES) {
         for unfit_tape in [false, true] {

@@ -149,7 +149,7 @@ fn other_faults_are_told_before_the_line() {
                 faults.push((unfit, UNFIT_TRIT));
             }
             if other.frame[0] == MASK {
-                for (fault, number) in FILE_FAULTS.into_iter().zip([8, 9, 9, 10, 12]) {
+                for (fault, number) in FILE_FAULTS.into_iter().zip([8, 9, 9, 10, 12, 12]) {
                     let mut unfit = other.clone();
                     damage_file(&mut random, shape, &mut unfit.file, &[fault]);
                     faults.push((unfit, number));

@@ -11,5 +11,6 @@ mod runs;
 mod sampler;
 mod sets;
 mod states;
+mod ties;
 mod unit;
 mod views;

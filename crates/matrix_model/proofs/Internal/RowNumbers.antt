@@ -11,8 +11,8 @@ use Rattle.linear_model.specs.Trits.{fitTrits, zeroTrits}
 use Rattle.linear_model.proofs.Tables.{every-fails}
 use Rattle.numbers.specs.Number.{first}
 use Rattle.matrix_model.specs.Block.{Layout, rowsIn}
-use Rattle.matrix_model.specs.File.{Fits, blockCount, fileSize, rowsSize, rowPlaneOf, rowsOf, fitRow, nonzeroRow}
-use Rattle.matrix_model.specs.Internal.Rows.{rowsNumber, rowsHeld, heldBytes, rowsInFile, rowsForBlock}
+use Rattle.matrix_model.specs.File.{Fits, blockCount, fileSize, rowsSize, rowPlaneOf, rowsOf, fitRow}
+use Rattle.matrix_model.specs.Internal.Rows.{nonzeroRow, rowsNumber, rowsHeld, heldBytes, rowsInFile, rowsForBlock}
 use Rattle.matrix_model.proofs.Parts.{same-part, getD-part, length-part}
 use Rattle.matrix_model.proofs.Layouts.{planes, next-bytes, full}
 use Rattle.matrix_model.proofs.Rows.{length-rows, getD-rows}

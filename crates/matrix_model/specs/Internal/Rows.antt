@@ -1,17 +1,34 @@
--- Rows as the code judges them: block by block, where they stand.
-use Prim.Native.Nat.{ℕ, _+_, _*_}
+-- Rows as the code judges them: row by row where they stand, block by block, and then together.
+use Prim.Native.Nat.{ℕ, _+_, _*_, _/_, _%_, _≤_}
+use mathlib.Core.Path.{_≡_}
 use mathlib.Core.List.{List, [], _∷_}
 use mathlib.Core.Bool.{Bool, cond, not}
 use lib.ListN.{take, drop}
 use Rattle.linear_model.specs.Tables.{every}
+use Rattle.linear_model.specs.Trits.{zeroTrits}
+use Rattle.linear_model.specs.Products.{rowsFrom}
 use Rattle.numbers.specs.Number.{_when_, first}
 use Rattle.matrix_model.specs.Block.{Layout, blockBytes, headBytes, rowsIn}
-use Rattle.matrix_model.specs.File.{fileSize, rowsSize, rowsOf, fitRow, nonzeroRow}
+use Rattle.matrix_model.specs.File.{fileSize, rowsSize, rowPlaneOf, rowsOf, fitRow}
 
--- the number of the first n of these rows
+-- row i is not all zero
+abbrev pub nonzeroRow : Layout → List ℕ → ℕ → Bool
+nonzeroRow layout rows i = not (zeroTrits (rowPlaneOf layout) 0 (rowsFrom (rowPlaneOf layout) rows i))
+
+-- a row is all zero, which the code tests first: the rows are then tied
+unfoldable pub zeroRowOf : Layout → List ℕ → Bool
+zeroRowOf layout rows = not (every (layout .rowCount) (nonzeroRow layout rows))
+
+-- the number of the first n of these rows by the tests of each row: 12 stands for a zero row alone, and other ties are not tested
 unfoldable pub rowsNumber : Layout → ℕ → List ℕ → ℕ
 rowsNumber layout n rows =
     first ((10 when not (every n (fitRow layout rows))) ∷ (12 when not (every n (nonzeroRow layout rows))) ∷ [])
+
+-- a layout whose rows are whole words, at most eight to a plane, and no more words in all than set 3's rows have: there is room for the elimination
+pub record Eliminable (layout : Layout) : Type 0 where
+  pub whole-words : layout .rowBytes % 16 ≡ 0
+  pub few-words : layout .rowBytes ≤ 128
+  pub room : layout .rowBytes / 8 * layout .rowCount ≤ 2592
 
 -- the rows of a file, or the bytes themselves where they are the rows alone
 abbrev pub rowsHeld : Layout → Bool → List ℕ → List ℕ

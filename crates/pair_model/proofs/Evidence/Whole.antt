@@ -2,6 +2,7 @@
 use Prim.Native.Nat.{ℕ}
 use Rattle.numbers.proofs.Lowest.{falling-first}
 use Rattle.source_model.proofs.Evidence.{draw-evidence}
+use Rattle.matrix_model.proofs.TieEvidence.{tie-evidence}
 use Rattle.pair_model.specs.Run.{protocol}
 use Rattle.pair_model.specs.Base.{Format, circulantScheme, InEachSet, base}
 use Rattle.pair_model.specs.Theorem.{Correctness, Privacy, ThreeFrames}
@@ -47,6 +48,7 @@ evidence =
       sample = sample-compared;
       selfComparable = λ fixed run es. shared-comparable (protocol base) fixed run run es;
       anySize = circulant-laws;
+      ties = tie-evidence;
       draws = draw-evidence;
       passes = demand3 small small-linear;
       ownStep = own-step;

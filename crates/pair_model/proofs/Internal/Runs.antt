@@ -12,7 +12,7 @@ use lib.Seq.{drop-drop, take-take, take-nil, length-take-le}
 use Rattle.linear_model.specs.Trits.{fitTrits}
 use Rattle.numbers.specs.Number.{first}
 use Rattle.numbers.specs.Sets.{numberIn}
-use Rattle.matrix_model.specs.File.{rowsOf, badCheckOf, badLayoutOf, badTritOf, zeroRowOf, faultsOf, checkNumber, matrixB}
+use Rattle.matrix_model.specs.File.{rowsOf, badCheckOf, badLayoutOf, badTritOf, tiedRowsOf, faultsOf, checkNumber, matrixB}
 use Rattle.numbers.proofs.Numbers.{NoneHolds, none-holds, is-equal, is-at-least, or-left, or-right}
 use Rattle.pair_model.specs.Scheme.{side0, side1}
 use Rattle.pair_model.specs.Base.{base}
@@ -54,8 +54,8 @@ badLayout file = badLayoutOf matrixB file
 abbrev badTrit : List ℕ → Bool
 badTrit file = badTritOf matrixB (rowsOf matrixB file)
 
-abbrev zeroRow : List ℕ → Bool
-zeroRow file = zeroRowOf matrixB (rowsOf matrixB file)
+abbrev tiedRows : List ℕ → Bool
+tiedRows file = tiedRowsOf matrixB (rowsOf matrixB file)
 
 -- a tape with an unfit trit: 10 comes after the file's 8 and 9 and before its 12
 abbrev lowest : Bool → Bool → Bool → Bool → ℕ
@@ -91,13 +91,13 @@ module _ (input : List ℕ) (n : ℕ) where
     unfolding first runConditions checkNumber numberIn faultsOf
     run-fit m e f =
         e ∙ rw (eq-eqb (length (inputFile base input)) 6144 long, eq-eqb (length input) 6528 l, le-ltb n 22 r, f)
-        (fit-tape (badCheck (inputFile base input)) (badLayout (inputFile base input)) (badTrit (inputFile base input)) (zeroRow (inputFile base input)))
+        (fit-tape (badCheck (inputFile base input)) (badLayout (inputFile base input)) (badTrit (inputFile base input)) (tiedRows (inputFile base input)))
 
     pub run-unfit : (m : ℕ) → m ≡ checkNumber 1 (inputFile base input) → fitTrits 32 256 (r0 base (inputTape base input)) ≡ false
         → cond (eqb m 8) 8 (cond (eqb m 9) 9 10) ≡ runNumber input n
     unfolding first runConditions checkNumber numberIn faultsOf
     run-unfit m e f =
-        unfit-tape (badCheck (inputFile base input)) (badLayout (inputFile base input)) (badTrit (inputFile base input)) (zeroRow (inputFile base input)) m
+        unfit-tape (badCheck (inputFile base input)) (badLayout (inputFile base input)) (badTrit (inputFile base input)) (tiedRows (inputFile base input)) m
         (e ∙ rw (eq-eqb (length (inputFile base input)) 6144 long))
         ∙ rw (eq-eqb (length input) 6528 l, le-ltb n 22 r, f)
 

@@ -1,8 +1,9 @@
 //! The calls of the interface in each set, on the parts of one run of it.
 
-use crate::interface;
 use crate::timing::{kept, shared, Table};
-use service_pair_tests::fast::{dealer, evaluator, join, matrix, run, sampler, unit};
+use crate::{checks, interface};
+use service_pair_tests::fast::{dealer, evaluator, join, run, sampler, unit};
+use service_pair_tests::matrices::{file_of, uniform};
 use service_pair_tests::random::Random;
 use service_pair_tests::reference::frame::Shared;
 use service_pair_tests::reference::program::Inputs;
@@ -28,6 +29,7 @@ impl Run {
     /// A run whose every call gives the same by both sides.
     fn new(random: &mut Random, shape: Shape) -> Run {
         let mut inputs = fit_inputs(random, shape);
+        inputs.file = file_of(shape, &uniform(random, shape));
         inputs.key_halves = [0; 2].map(|_| random.bytes(shape.string_bytes()));
         inputs.label_halves = [0; 2].map(|_| random.bytes(shape.string_bytes()));
         let states = [[[0; STATE_BYTES]; 4]; 2];
@@ -100,7 +102,8 @@ fn same(name: &str, before: Vec<u8>, mut call: impl FnMut(bool, &mut [u8]) -> u3
 pub fn rows(random: &mut Random, table: &mut Table) {
     let runs = SETS.map(|shape| shared(Run::new(random, shape)));
     for run in runs {
-        check_and_evaluator(run, table);
+        checks::rows(random, run.shape, &run.inputs.file, table);
+        evaluating(run, table);
     }
     for run in runs {
         dealing(run, table);
@@ -117,15 +120,9 @@ pub fn rows(random: &mut Random, table: &mut Table) {
     whole_run(runs[0], table);
 }
 
-fn check_and_evaluator(run: &'static Run, table: &mut Table) {
+fn evaluating(run: &'static Run, table: &mut Table) {
     let (set, file) = (run.shape.set, &run.inputs.file[..]);
     let (key, label) = (&run.inputs.key_halves[0][..], &run.inputs.label_halves[0][..]);
-    assert_eq!([interface::matrix_check(set, file), matrix::matrix_check(set, file)], [0, 0]);
-    table.compare(
-        &run.row("pair_matrix_check"),
-        move || kept(interface::matrix_check(set, black_box(file))),
-        move || kept(matrix::matrix_check(set, black_box(file))),
-    );
     let mut out = same("evaluator", vec![0; run.shape.code_bytes()], |ours, out| match ours {
         true => interface::evaluate(set, key, label, file, out),
         false => evaluator::evaluate(set, key, label, file, out),

@@ -3,6 +3,7 @@
 //! word, only the rows whose names have it.
 
 mod calls;
+mod checks;
 #[path = "../../../tests/interface/mod.rs"]
 mod interface;
 #[path = "../../../tests/linear/library.rs"]

@@ -25,7 +25,7 @@ pub file-check-spec : {M : Type 1} → statement M
 file-check-spec =
     tie.close
     (tie.spec
-    (λ c κs. c .before .pre)
+    (λ c κs. c .before .pre .0)
     returns
-    (λ c κs. (c .before .before .before .pre, c .if1 .left ∙ c .before .file-size .ensures))
+    (λ c κs. (c .before .before .before .pre .0, c .before .before .before .pre .1, c .if1 .left ∙ c .before .file-size .ensures))
     returns-2)

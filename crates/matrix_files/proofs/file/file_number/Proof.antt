@@ -23,9 +23,9 @@ pub file-number-spec : {M : Type 1} → statement M
 file-number-spec =
     tie.close
     (tie.spec
-    (λ c κs. c .before .pre)
+    (λ c κs. (c .before .pre .0, c .before .pre .2))
     returns
-    (λ c κs. c .before .before .before .pre)
+    (λ c κs. let p = c .before .before .before .pre in (p .0, p .2))
     returns-2
     (λ c κs. c .before .before .before .before .before .pre)
     returns-3)

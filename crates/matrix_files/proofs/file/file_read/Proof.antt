@@ -40,13 +40,13 @@ returns-3 c =
     let layout = layoutIn (a .args .layout) in
     let file = a .args .file .now in
     success (rowsOf layout file) (a .args .out .now) (sym (fit d) ∙ checked-read layout file (length (a .args .out .now)) (room (d .before .before))) refl (rw (length-rows layout file) e)
-    (rw (ap (take (rowsSize layout)) e ∙ take-at (rowsOf layout file) _ (rowsSize layout) (length-rows layout file)) (restored layout file (a .pre) (fit d)))
+    (rw (ap (take (rowsSize layout)) e ∙ take-at (rowsOf layout file) _ (rowsSize layout) (length-rows layout file)) (restored layout file (a .pre .0) (fit d)))
 
 write-rows-requires : tie.Need-write-rows-requires
 write-rows-requires c κs =
     let d = c .before in
     let a = d .before .before .before .before .before .before in
-    (a .pre, long-where-fit (layoutIn (a .args .layout)) (a .args .file .now) (fit d), room (d .before .before))
+    (a .pre .0, long-where-fit (layoutIn (a .args .layout)) (a .args .file .now) (fit d), room (d .before .before))
 
 pub file-read-spec : {M : Type 1} → statement M
 file-read-spec =

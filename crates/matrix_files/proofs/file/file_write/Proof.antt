@@ -57,20 +57,20 @@ returns-4 c =
     let set = a .args .rows .now in
     let z : n .all-rows-number .result ≡ 0 = w .before .before .if3 .left in
     let e = w .write-blocks .ensures in
-    let file = length-file layout (a .pre) set (long (d .before .before)) in
+    let file = length-file layout (a .pre .0) set (long (d .before .before)) in
     success (fileFrom layout set) (a .args .out .now) (sym z ∙ n .all-rows-number .ensures ∙ decided d) refl (rw file e)
-    (rw (ap (take (fileSize layout)) e ∙ take-at (fileFrom layout set) _ (fileSize layout) file) (survives layout (a .pre) set (long (d .before .before)) (sym (n .all-rows-number .ensures) ∙ z)))
+    (rw (ap (take (fileSize layout)) e ∙ take-at (fileFrom layout set) _ (fileSize layout) file) (survives layout (a .pre .0) set (long (d .before .before)) (sym (n .all-rows-number .ensures) ∙ z)))
 
 pub file-write-spec : {M : Type 1} → statement M
 file-write-spec =
     tie.close
     (tie.spec
-    (λ c κs. c .before .before .pre)
+    (λ c κs. c .before .before .pre .0)
     returns
-    (λ c κs. c .before .before .before .before .pre)
+    (λ c κs. c .before .before .before .before .pre .0)
     returns-2
-    (λ c κs. (c .before .before .before .before .before .before .pre, long (c .before .before)))
+    (λ c κs. let p = c .before .before .before .before .before .before .pre in (p .0, p .1, long (c .before .before)))
     returns-3
-    (λ c κs. let d = c .before .before .before in (d .before .before .before .before .before .before .pre, long (d .before .before), room d))
+    (λ c κs. let d = c .before .before .before in (d .before .before .before .before .before .before .pre .0, long (d .before .before), room d))
     (λ c. search needs)
     returns-4)

@@ -1,16 +1,15 @@
--- `matrix_rows::rows::all_rows_number` meets its contract. The invariant of its loop: the number is that of the rows before block b, which are fit.
+-- `matrix_rows::rows::each_row_number` meets its contract. The invariant of its loop: the number is that of the rows before block b, which are fit.
 use mathlib.Core.Path.{_≡_}
 use mathlib.Core.Logic.{⊎-elim}
 use Prim.Native.Nat.{_+_, _-_, _*_, _<_, _≤_, min}
 use native.Mathlib.Omega.{arith}
-use Rattle.numbers.specs.Number.{first}
-use Rattle.matrix_model.specs.File.{blockCount, badTritOf, zeroRowOf, rowFaultsOf}
-use Rattle.matrix_model.specs.Internal.Rows.{rowsNumber, rowsHeld}
+use Rattle.matrix_model.specs.File.{blockCount}
+use Rattle.matrix_model.specs.Internal.Rows.{rowsHeld}
 use Rattle.matrix_model.proofs.Layouts.{started, covered, next-rows}
 use Rattle.matrix_model.proofs.Internal.RowNumbers.{Among, among-block, length-held, Judging, judging-none, judging-all, judging-found, judging-kept, judging-unfit}
 use Rattle.matrix_blocks.specs.Layouts.{layoutIn}
-use Rattle.matrix_rows.proofs.rows.all_rows_number.Statement.{statement}
-use Rattle.matrix_rows.proofs.rows.all_rows_number.Tie as tie
+use Rattle.matrix_rows.proofs.rows.each_row_number.Statement.{statement}
+use Rattle.matrix_rows.proofs.rows.each_row_number.Tie as tie
 
 abbrev Inv-loop : tie.InvT-loop
 Inv-loop layout s in-blocks blocks number₀ b₀ number b =
@@ -63,7 +62,6 @@ next c =
     omega (arith, c .rows-in .ensures, next-rows (layoutIn (a .args .layout)) (a .pre .0) (l .loop .b) (inside (c .before .before)))
 
 returns : tie.Need-returns Inv-loop μ-loop
-unfolding first rowFaultsOf badTritOf zeroRowOf rowsNumber
 returns c =
     let r = c .before .before in
     judging-unfit (r .before .before .before .before .before .before .pre .0) (block r) (before r) (c .before .block-number .ensures) _ (omega (arith, next r)) (c .if1 .taken)
@@ -79,7 +77,6 @@ loop-again c =
     )
 
 returns-2 : tie.Need-returns-2 Inv-loop μ-loop
-unfolding first rowFaultsOf badTritOf zeroRowOf rowsNumber
 returns-2 c =
     let l = c .before in
     let a = l .before .before .before in
@@ -87,8 +84,8 @@ returns-2 c =
     let e : l .loop .b ≡ blockCount layout = omega (arith, l .before .block-count .ensures) in
     judging-all (layout .rowCount) (l .loop .inv .1) (rw e (omega (arith, covered layout (a .pre .0))))
 
-pub all-rows-number-spec : {M : Type 1} → statement M
-all-rows-number-spec =
+pub each-row-number-spec : {M : Type 1} → statement M
+each-row-number-spec =
     tie.close
     (tie.spec
     Inv-loop

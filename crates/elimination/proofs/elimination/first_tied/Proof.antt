@@ -1,0 +1,101 @@
+-- `elimination::elimination::first_tied` meets its contract. The invariant of its loop: r rows have had their turn.
+use mathlib.Core.Path.{_≡_, refl, _∙_}
+use Prim.Native.Nat.{_+_, _-_, _*_, _<_, _≤_}
+use native.Mathlib.Nat.{le-refl}
+use native.Mathlib.Omega.{arith}
+use lib.ListN.{length}
+use Rattle.elimination_model.specs.Internal.Words.{digitAt, FitRows, Table}
+use Rattle.linear_model.proofs.Strings.{length-zeros}
+use Rattle.elimination_model.proofs.Elimination.{Reduced, reduced-none, reduced-untied, reduced-zero}
+use Rattle.elimination_model.proofs.Internal.Writing.{rows-apart}
+use Rattle.elimination_model.proofs.Internal.Tables.{zero-table}
+use Rattle.elimination_model.proofs.Internal.Turns.{column-pivot, cleared-fit, turn-reduced, turn-zero}
+use Rattle.elimination.proofs.elimination.first_tied.Statement.{statement}
+use Rattle.elimination.proofs.elimination.first_tied.Tie as tie
+
+abbrev Inv-loop : tie.InvT-loop
+Inv-loop words₀ w t table₀ r₀ words table r =
+    (r ≤ t) × (length words ≡ length words₀) × FitRows w t words × Table w table × Reduced (64 * w) t (digitAt w words₀) (digitAt w words) r
+    × (length table ≡ 48)
+
+abbrev μ-loop : tie.MeasureT-loop
+μ-loop words₀ w t table₀ r₀ words table r = t - r
+
+loop-holds : tie.Need-loop-holds Inv-loop μ-loop
+loop-holds c = (omega arith, refl, c .before .pre .1, zero-table _ (c .before .pre .0), reduced-none _ _ _, length-zeros 48)
+
+-- row r ends within the words
+place : (c : tie.In-loop Inv-loop μ-loop)
+    → (let w = c .before .before .before .args .w in 2 * w * c .before .loop .r + 2 * w ≤ length (c .before .loop .words))
+place c =
+    let l = c .before in
+    let s = l .before .before in
+    let h : l .loop .r < s .args .t = omega arith in
+    omega (arith, l .loop .inv .2 .long, rows-apart (s .args .w) (l .loop .r) (s .args .t) h)
+
+mul-nonzero-column-2 : tie.Need-mul-nonzero-column-2 Inv-loop μ-loop
+mul-nonzero-column-2 c = omega (arith, place (c .before))
+
+nonzero-column-requires : tie.Need-nonzero-column-requires Inv-loop μ-loop
+nonzero-column-requires c κs = place (c .before)
+
+returns : tie.Need-returns Inv-loop μ-loop
+returns c =
+    let l = c .before .before .before .before .before in
+    let h : l .loop .r < l .before .before .args .t = omega arith in
+    record {
+      within = l .loop .inv .0;
+      before = reduced-untied _ _ _ _ _ (l .loop .inv .4) (l .loop .inv .0);
+      is-tied = λ g. reduced-zero _ _ _ _ _ (l .loop .inv .4) h (turn-zero _ _ _ _ _ (c .before .before .nonzero-column .ensures) (omega arith));
+    }
+
+take-turn-requires : tie.Need-take-turn-requires Inv-loop μ-loop
+take-turn-requires c κs =
+    let l = c .before .before .before .before .before .before .before in
+    (column-pivot _ _ _ _ _ _ (l .loop .inv .2) (omega arith) (c .before .before .before .before .nonzero-column .ensures) (omega arith), l .loop .inv .3)
+
+loop-again : tie.Need-loop-again Inv-loop μ-loop
+loop-again c =
+    let f = c .before .before .before .before .before .before .before .before in
+    let l = f .before .before .before in
+    let g : l .loop .r < l .before .before .args .t = omega arith in
+    let p = column-pivot _ _ _ _ _ _ (l .loop .inv .2) g (f .nonzero-column .ensures) (omega arith) in
+    let e = c .before .before .before .take-turn .ensures in (
+      omega arith,
+      e .0 .size ∙ l .loop .inv .1,
+      cleared-fit _ _ _ _ _ _ _ (l .loop .inv .2) g (e .0),
+      e .1,
+      turn-reduced _ _ _ _ _ (l .before .before .args .words .now) (l .loop .words) _ (l .loop .inv .4) p (e .0),
+      omega arith,
+    )
+
+returns-2 : tie.Need-returns-2 Inv-loop μ-loop
+returns-2 c =
+    let l = c .before in
+    let s = l .before .before in
+    let e : l .loop .r ≡ s .args .t = omega arith in
+    record {
+      within = le-refl (s .args .t);
+      before = rw e at (reduced-untied _ _ _ _ _ (l .loop .inv .4) (l .loop .inv .0));
+      is-tied = λ g. absurd (omega arith);
+    }
+
+pub first-tied-spec : {M : Type 1} → statement M
+first-tied-spec =
+    tie.close
+    (tie.spec
+    Inv-loop
+    μ-loop
+    loop-holds
+    (λ c. omega arith)
+    mul-nonzero-column-2
+    nonzero-column-requires
+    (λ c. omega arith)
+    returns
+    (λ c. omega arith)
+    take-turn-requires
+    (λ c. omega arith)
+    (λ c. omega arith)
+    loop-again
+    (λ c. omega arith)
+    returns-2)

@@ -1,0 +1,150 @@
+// Elimination: each row in turn, unless it has become zero, clears a column of the rows after it.
+ghost use mathlib.Core.Path.{_≡_};
+ghost use Prim.Native.Nat.{_+_, _*_, _<_, _≤_};
+ghost use lib.ListN.{length};
+ghost use Rattle.linear_model.specs.Bits.{bitAt};
+ghost use Rattle.elimination_model.specs.Internal.Words.{wordTrit, FitRow, FitRows, RowsWritten, ClearedWord, NonzeroColumn, Multiples, Table, Pivot, Turn, FirstTied};
+use crate::rows::add_row;
+use crate::rows::put_row;
+
+// A table of three rows of eight words to a plane.
+const TABLE_WORDS: usize = 48;
+
+// A column: a word of each plane and a place in it.
+struct Column {
+    word: usize,
+    bit: u32,
+}
+
+// A bit of `x` that is set.
+fn set_bit(x: u64) -> u32
+    requires { ⌜ 0 < x ⌝ }
+    ensures { λ r. ⌜ (r < 64) × (bitAt x r ≡ 1) ⌝ }
+{
+    u64::trailing_zeros(x)
+}
+
+// A column in which the row from word `a` on is not 0; word `w` if there is none. It is the first, and nothing depends on that.
+fn nonzero_column(words: &[u64], a: usize, w: usize) -> Column
+    requires { ⌜ a + 2 * w ≤ length (now words) ⌝ }
+    ensures { λ r. ⌜ NonzeroColumn w (now (words .entry)) a (r .word) (r .bit) ⌝ }
+{
+    let mut m: usize = 0;
+    while m < w {
+        let some = words[a + m] | words[a + w + m];
+        if some != 0 {
+            return Column {
+                word: m,
+                bit: set_bit(some),
+            };
+        }
+        m += 1;
+    }
+    Column { word: w, bit: 0 }
+}
+
+// The digit of the row from word `a` on in a column.
+fn digit_in(words: &[u64], a: usize, w: usize, column: Column) -> usize
+    requires { ⌜ (a + 2 * w ≤ length (now words)) × (column .word < w) × (column .bit < 64) ⌝ }
+    ensures { λ r. ⌜ r ≡ wordTrit w (now (words .entry)) a (column .word) (column .bit) ⌝ }
+{
+    let x = words[a + column.word];
+    let u = words[a + w + column.word];
+    ((x >> column.bit) % 2 + 2 * ((u >> column.bit) % 2)) as usize
+}
+
+// Fills the table: entry `d` is the row from word `a` on times 2 d p, so that a row with digit `d` where this one has `p` becomes 0 there
+// when the entry is added. A row with its planes exchanged is its negative.
+fn fill_table(words: &[u64], a: usize, w: usize, p: usize, table: &mut [u64])
+    requires { ⌜ FitRow w (now words) a × (0 < p) × (p < 3) × Table w (now table) ⌝ }
+    ensures { λ _. ⌜ Multiples w (now (words .entry)) a p (now (table .exit)) ⌝ }
+{
+    put_row(words, a, a + w, table, 2 * w * (3 - p), w);
+    put_row(words, a + w, a, table, 2 * w * p, w);
+}
+
+// The same. One and two words are written out, so that each gets code of its own; for longer rows filling is little beside clearing.
+fn fill_table_by_size(words: &[u64], a: usize, w: usize, p: usize, table: &mut [u64])
+    requires { ⌜ FitRow w (now words) a × (0 < p) × (p < 3) × Table w (now table) ⌝ }
+    ensures { λ _. ⌜ Multiples w (now (words .entry)) a p (now (table .exit)) ⌝ }
+{
+    if w == 1 {
+        return fill_table(words, a, 1, p, table);
+    }
+    if w == 2 {
+        return fill_table(words, a, 2, p, table);
+    }
+    fill_table(words, a, w, p, table);
+}
+
+// Clears a column of the rows after row `r`: each gets the entry of its digit there.
+fn clear_rows(words: &mut [u64], table: &[u64], w: usize, t: usize, r: usize, column: Column)
+    requires { ⌜ Turn w t r (column .word) (column .bit) (now words) (now table) ⌝ }
+    ensures { λ _. ⌜ RowsWritten w (r + 1) t (ClearedWord w r (column .word) (column .bit) (now (words .entry))) (now (words .entry)) (now (words .exit)) ⌝ }
+{
+    let mut i = r + 1;
+    let mut b = 2 * w * i;
+    while i < t {
+        let d = digit_in(words, b, w, column);
+        add_row(table, 2 * w * d, words, b, w);
+        i += 1;
+        b += 2 * w;
+    }
+}
+
+// The same, with the sizes in use written out.
+fn clear_rows_by_size(
+    words: &mut [u64],
+    table: &[u64],
+    w: usize,
+    t: usize,
+    r: usize,
+    column: Column,
+)
+    requires { ⌜ Turn w t r (column .word) (column .bit) (now words) (now table) ⌝ }
+    ensures { λ _. ⌜ RowsWritten w (r + 1) t (ClearedWord w r (column .word) (column .bit) (now (words .entry))) (now (words .entry)) (now (words .exit)) ⌝ }
+{
+    if w == 1 {
+        return clear_rows(words, table, 1, t, r, column);
+    }
+    if w == 2 {
+        return clear_rows(words, table, 2, t, r, column);
+    }
+    if w == 4 {
+        return clear_rows(words, table, 4, t, r, column);
+    }
+    if w == 8 {
+        return clear_rows(words, table, 8, t, r, column);
+    }
+    clear_rows(words, table, w, t, r, column);
+}
+
+// The turn of row `r`, which is not 0 in a column: it clears this column of the rows after it.
+fn take_turn(words: &mut [u64], table: &mut [u64], w: usize, t: usize, r: usize, column: Column)
+    requires { ⌜ Pivot w t r (column .word) (column .bit) (now words) × Table w (now table) ⌝ }
+    ensures rows { λ _. ⌜ RowsWritten w (r + 1) t (ClearedWord w r (column .word) (column .bit) (now (words .entry))) (now (words .entry)) (now (words .exit)) ⌝ }
+    ensures table { λ _. ⌜ Table w (now (table .exit)) ⌝ }
+{
+    let a = 2 * w * r;
+    let p = digit_in(words, a, w, column);
+    fill_table_by_size(words, a, w, p, table);
+    clear_rows_by_size(words, table, w, t, r, column);
+}
+
+// The first of `t` rows that is tied to the rows before it; `t` if there is none. What is left in the words is not said.
+pub fn first_tied(words: &mut [u64], w: usize, t: usize) -> usize
+    requires { ⌜ (w ≤ 8) × FitRows w t (now words) ⌝ }
+    ensures { λ r. ⌜ FirstTied w t (now (words .entry)) r ⌝ }
+{
+    let mut table = [0u64; TABLE_WORDS];
+    let mut r: usize = 0;
+    while r < t {
+        let column = nonzero_column(words, 2 * w * r, w);
+        if w <= column.word {
+            return r;
+        }
+        take_turn(words, &mut table, w, t, r, column);
+        r += 1;
+    }
+    t
+}

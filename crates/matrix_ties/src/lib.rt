@@ -1,0 +1,2 @@
+// The rows of the matrix file, judged together.
+pub mod ties;
