@@ -53,7 +53,7 @@ fn runs_in_turn_give_the_code() {
 /// rare, as they spoil the run; says whether one did.
 fn any_entry(random: &mut Random, run: &Run, side: usize) -> (Lent, bool) {
     let sent = run.as_sent(random, side);
-    if let (Some(lent), true) = (sent, random.once_in(6)) {
+    if let (Some(lent), true) = (sent, random.once_in(12)) {
         return (lent, false);
     }
     loop {

@@ -9,7 +9,7 @@ use service_pair_tests::reference::frame::Shared;
 use service_pair_tests::reference::numbers::DONE;
 use service_pair_tests::reference::program::Inputs;
 use service_pair_tests::reference::unit::{self, Stage, State};
-use service_pair_tests::state_layout::{encode, STATE_BYTES};
+use service_pair_tests::state_layout::{encode, LINE_AT, STATE_BYTES};
 
 /// What one step is lent: frame, file and the length of the output slice.
 #[derive(Clone, Debug, PartialEq, Eq)]
@@ -123,11 +123,14 @@ impl Run {
     /// one of no run; fit files or not.
     pub fn anything(&self, random: &mut Random, side: usize) -> Lent {
         let (shape, known) = (self.inputs.shape, self.frames());
-        let frame = match self.awaited(side) {
-            // The right frame, so that it is the file or the slice that is not.
-            Some(frame) if random.once_in(4) => frame.clone(),
+        let mut frame = match self.awaited(side) {
+            // The right frame, so that it is the line, the file or the slice that is not.
+            Some(frame) if random.once_in(2) => frame.clone(),
             _ => strange_frame(random, shape, &known, self.shared),
         };
+        if let (Some(line), true) = (frame.get_mut(LINE_AT), random.once_in(4)) {
+            *line ^= 1 << random.below(8);
+        }
         let file = strange_file(random, shape, &self.inputs.file);
         Lent { frame, file, room: strange_room(random, shape) }
     }
