@@ -38,14 +38,14 @@
  *
  * STACK. What each call uses at most in any set, arguments and return address included, in KiB, rounded up:
  *
- *     pair_matrix_check  26.8     pair_evaluate     27.2     pair_begin             0.1
- *     pair_matrix_read   27.0     pair_sample        0.7     pair_step, with deal   0.4
- *     pair_matrix_write  27.6     pair_deal          2.8     .. with open           3.1
- *     pair_join           0.3     pair_deal_source   3.4     .. with mask          27.1
- *                                                            pair_run              30.7
+ *     pair_matrix_check  21.5     pair_evaluate     21.9     pair_begin             0.1
+ *     pair_matrix_read   21.6     pair_sample        0.7     pair_step, with deal   0.4
+ *     pair_matrix_write  22.3     pair_deal          2.8     .. with open           3.1
+ *     pair_join           0.3     pair_deal_source   3.4     .. with mask          21.7
+ *                                                            pair_run              25.3
  *
  * What judges a matrix has room for all rows of set 3, whichever set is named. A program that looks for memcpy and
- * memset at their first use (lazy binding) takes about 3.1 KiB below where they are called, so pair_run 33.1 in all
+ * memset at their first use (lazy binding) takes about 3.1 KiB below where they are called, so pair_run 27.7 in all
  * where it is the first call; linked with -z now it does not. Measured, not proved: the library was made by the
  * toolchain rattle-kit-5b, its callers by GCC 12 and Clang 14.
  * tests/c/stack.c measures the table again.
@@ -171,7 +171,7 @@
 
 /* Of every set. */
 #define PAIR_STATE_BYTES 520   /* a unit's state: see pair_begin */
-#define PAIR_STACK_BYTES 36864 /* more than any call uses of the stack: see STACK */
+#define PAIR_STACK_BYTES 30720 /* more than any call uses of the stack: see STACK */
 
 enum pair_kind { PAIR_DEAL = 1, PAIR_OPEN = 2, PAIR_MASK = 3, PAIR_SHARE = 4 };
 

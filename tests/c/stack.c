@@ -236,10 +236,10 @@ static struct call {
     const uint8_t *state;  /* what a step begins with */
     size_t deepest;        /* in all sets */
 } calls[] = {
-    {"pair_matrix_check", matrix_check, 268, NULL, 0},
-    {"pair_matrix_write", matrix_write, 276, NULL, 0},
-    {"pair_matrix_read", matrix_read, 270, NULL, 0},
-    {"pair_evaluate", evaluate, 272, NULL, 0},
+    {"pair_matrix_check", matrix_check, 215, NULL, 0},
+    {"pair_matrix_write", matrix_write, 223, NULL, 0},
+    {"pair_matrix_read", matrix_read, 216, NULL, 0},
+    {"pair_evaluate", evaluate, 219, NULL, 0},
     {"pair_sample", sample, 7, NULL, 0},
     {"pair_sample, start 1", sample_inside, 7, NULL, 0},
     {"pair_deal", deal, 28, NULL, 0},
@@ -248,9 +248,9 @@ static struct call {
     {"pair_begin", begin, 1, NULL, 0},
     {"pair_step, deal", step_deal, 4, states[0], 0},
     {"pair_step, open", step_open, 31, states[1], 0},
-    {"pair_step, mask", step_mask, 271, states[2], 0},
+    {"pair_step, mask", step_mask, 217, states[2], 0},
     {"pair_join", join, 3, NULL, 0},
-    {"pair_run", whole_run, 307, NULL, 0},
+    {"pair_run", whole_run, 253, NULL, 0},
 };
 
 static void make_call(const struct call *call, uint8_t pattern, bool wiping)

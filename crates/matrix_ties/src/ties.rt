@@ -74,7 +74,44 @@ fn tied_in(layout: Layout, s: &[u8], in_blocks: bool, v: usize, words: &mut [u64
     first_tied(words, v, layout.row_count) < layout.row_count
 }
 
-// The same, in words of its own: as many as the rows of the smallest set have that are enough.
+// The same, in words of its own, as many as the rows of set 1 have. There is such a function for each set and not one with three arrays:
+// arrays of different functions get one place in a caller's frame, those of one function a place each.
+fn tied_in_words_1(layout: Layout, s: &[u8], in_blocks: bool, v: usize) -> bool
+    requires { ⌜
+        Fits (layoutIn layout) × (length (now s) ≡ heldBytes (layoutIn layout) «in_blocks») × (8 * v ≤ rowPlaneOf (layoutIn layout))
+        × (2 * v * layoutIn layout .rowCount ≤ 648) × (v ≤ 8)
+        ⌝ }
+    ensures { λ r. ⌜ r ≡ tied (64 * v) (layoutIn layout .rowCount) (tritAt (rowPlaneOf (layoutIn layout)) (rowsHeld (layoutIn layout) «in_blocks» (now (s .entry)))) ⌝ }
+{
+    let mut words = [0u64; WORDS_1];
+    tied_in(layout, s, in_blocks, v, &mut words)
+}
+
+// The same, for set 2.
+fn tied_in_words_2(layout: Layout, s: &[u8], in_blocks: bool, v: usize) -> bool
+    requires { ⌜
+        Fits (layoutIn layout) × (length (now s) ≡ heldBytes (layoutIn layout) «in_blocks») × (8 * v ≤ rowPlaneOf (layoutIn layout))
+        × (2 * v * layoutIn layout .rowCount ≤ 42) × (v ≤ 8)
+        ⌝ }
+    ensures { λ r. ⌜ r ≡ tied (64 * v) (layoutIn layout .rowCount) (tritAt (rowPlaneOf (layoutIn layout)) (rowsHeld (layoutIn layout) «in_blocks» (now (s .entry)))) ⌝ }
+{
+    let mut words = [0u64; WORDS_2];
+    tied_in(layout, s, in_blocks, v, &mut words)
+}
+
+// The same, for set 3.
+fn tied_in_words_3(layout: Layout, s: &[u8], in_blocks: bool, v: usize) -> bool
+    requires { ⌜
+        Fits (layoutIn layout) × (length (now s) ≡ heldBytes (layoutIn layout) «in_blocks») × (8 * v ≤ rowPlaneOf (layoutIn layout))
+        × (2 * v * layoutIn layout .rowCount ≤ 2592) × (v ≤ 8)
+        ⌝ }
+    ensures { λ r. ⌜ r ≡ tied (64 * v) (layoutIn layout .rowCount) (tritAt (rowPlaneOf (layoutIn layout)) (rowsHeld (layoutIn layout) «in_blocks» (now (s .entry)))) ⌝ }
+{
+    let mut words = [0u64; WORDS_3];
+    tied_in(layout, s, in_blocks, v, &mut words)
+}
+
+// The same, in the fewest words that are enough.
 fn tied_columns(layout: Layout, s: &[u8], in_blocks: bool, v: usize) -> bool
     requires { ⌜
         Fits (layoutIn layout) × (length (now s) ≡ heldBytes (layoutIn layout) «in_blocks») × (8 * v ≤ rowPlaneOf (layoutIn layout))
@@ -84,15 +121,12 @@ fn tied_columns(layout: Layout, s: &[u8], in_blocks: bool, v: usize) -> bool
 {
     let n = 2 * v * layout.row_count;
     if n <= WORDS_2 {
-        let mut words = [0u64; WORDS_2];
-        return tied_in(layout, s, in_blocks, v, &mut words);
+        return tied_in_words_2(layout, s, in_blocks, v);
     }
     if n <= WORDS_1 {
-        let mut words = [0u64; WORDS_1];
-        return tied_in(layout, s, in_blocks, v, &mut words);
+        return tied_in_words_1(layout, s, in_blocks, v);
     }
-    let mut words = [0u64; WORDS_3];
-    tied_in(layout, s, in_blocks, v, &mut words)
+    tied_in_words_3(layout, s, in_blocks, v)
 }
 
 // Whether the rows are not tied. First only as many words are looked at as have more columns than there are rows, which is less work: rows
