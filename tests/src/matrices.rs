@@ -43,6 +43,11 @@ pub fn nonzero_digit(random: &mut Random) -> u8 {
     1 + random.below(2) as u8
 }
 
+/// Turns a digit into one of the other two.
+pub fn change_digit(random: &mut Random, digit: &mut u8) {
+    *digit = (*digit + nonzero_digit(random)) % 3;
+}
+
 /// The numbers below a limit in any order.
 pub fn shuffled(random: &mut Random, limit: usize) -> Vec<usize> {
     let mut numbers: Vec<usize> = (0..limit).collect();
@@ -79,12 +84,13 @@ fn singles(random: &mut Random, shape: Shape) -> Rows {
 /// before it.
 fn triangle(random: &mut Random, shape: Shape) -> Rows {
     let columns = shuffled(random, shape.bits);
-    let mut rows = singles(random, shape);
-    for (i, row) in rows.iter_mut().enumerate() {
-        *row = uniform_row(random, shape);
+    let row = |i: usize| {
+        let mut row = uniform_row(random, shape);
         columns[..i].iter().for_each(|column| row[*column] = 0);
         row[columns[i]] = nonzero_digit(random);
-    }
+        row
+    };
+    let mut rows: Rows = (0..shape.digits).map(row).collect();
     if random.once_in(2) {
         rows.reverse();
     }
@@ -124,13 +130,17 @@ pub fn tie(rows: &mut [Vec<u8>], row: usize, terms: &[(usize, u8)]) {
     rows[row] = (0..rows[row].len()).map(sum).collect();
 }
 
-/// Makes a row the sum of some others, at most so many, each once or twice; gives
-/// the row's number.
+/// Makes a row the sum of these others, each once or twice.
+pub fn tie_to(random: &mut Random, rows: &mut [Vec<u8>], row: usize, others: &[usize]) {
+    let terms: Terms = others.iter().map(|i| (*i, nonzero_digit(random))).collect();
+    tie(rows, row, &terms);
+}
+
+/// The same with some others, at most so many; gives the row's number.
 pub fn tie_any(random: &mut Random, rows: &mut [Vec<u8>], most: usize) -> usize {
     let chosen = shuffled(random, rows.len());
     let count = (1 + random.below(most)).min(rows.len() - 1);
-    let terms: Terms = chosen[1..=count].iter().map(|i| (*i, nonzero_digit(random))).collect();
-    tie(rows, chosen[0], &terms);
+    tie_to(random, rows, chosen[0], &chosen[1..=count]);
     chosen[0]
 }
 

@@ -1,18 +1,20 @@
 -- Why elimination decides: each turn is a row operation, and a row that has become zero is tied to those before it.
 use mathlib.Core.Path.{_≡_, refl, sym, ap, ap₂, _∙_}
-use mathlib.Core.Bool.{Bool, true, false, cond, not, true≢false}
+use mathlib.Core.Bool.{Bool, true, false, cond}
 use mathlib.Core.Logic.{_≢_, _⊎_, inl, inr}
-use Prim.Native.Nat.{ℕ, zero, suc, _+_, _*_, _%_, _<_, _≤_}
+use Prim.Native.Nat.{ℕ, suc, _+_, _*_, _%_, _<_, _≤_}
 use native.Mathlib.Nat.{mod-mod, le-trans, le-refl, eq-or-lt-of-le, le-of-suc-le-suc, mul-assoc, mul-one}
 use native.Mathlib.Decide.{decLt}
 use native.Mathlib.Omega.{arith}
-use borrow.Author.Tests.{eq-eqb, ne-eqb, eqb-true, not-false, lt-ltb, le-ltb, ltb-true, ltb-false}
-use lib.Dec.{eqb, ltb}
+use borrow.Author.Tests.{eq-eqb, ne-eqb, lt-ltb, le-ltb}
+use lib.Dec.{eqb}
+use Rattle.linear_model.specs.Tables.{oneAt}
+use Rattle.linear_model.proofs.Tables.{one-there, one-elsewhere}
 use Rattle.linear_model.proofs.Sums.{add-congr}
 use Rattle.elimination_model.specs.Independence.{tied}
-use Rattle.elimination_model.specs.Internal.Elimination.{least, nonzeroAt, firstNonzero, factor, cleared, eliminated}
+use Rattle.elimination_model.specs.Internal.Elimination.{factor, cleared}
 use Rattle.elimination_model.proofs.Residues.{times-congr, times-zero, zero-times, square-one}
-use Rattle.elimination_model.proofs.Independence.{unit, unit-at, unit-off, zero-row-tie, tie-tied, independent-untied, tied-more, tied-congr}
+use Rattle.elimination_model.proofs.Independence.{zero-row-tie, tie-tied, independent-untied, tied-congr}
 use Rattle.elimination_model.proofs.RowOperations.{Pivots, pivots-independent, added-tied}
 
 -- ---- the turns of an elimination
@@ -110,40 +112,9 @@ reduced-untied n t r a b x h = x .same r h ∙ independent-untied n r b (pivots-
 pub reduced-zero : (n t r : ℕ) (a b : ℕ → ℕ → ℕ) → Reduced n t a b r → r < t → ((j : ℕ) → j < n → b r j % 3 ≡ 0) → tied n (suc r) a ≡ true
 reduced-zero n t r a b x h z = x .same (suc r) h ∙ tie-tied n (suc r) b (zero-row-tie n (suc r) b r (le-refl (suc r)) z)
 
--- ---- elimination as a function
+-- ---- a turn as a function of the rows
 
--- a test holds at its least place
-least-holds : (n : ℕ) (test : ℕ → Bool) → least n test < n → test (least n test) ≡ true
-unfolding least
-least-holds zero test h = absurd (omega arith)
-least-holds (suc n) test h = go (test 0) refl (least-holds n (λ i. test (suc i))) h
-  where
-    go : (b : Bool) → test 0 ≡ b → (least n (λ i. test (suc i)) < n → test (suc (least n (λ i. test (suc i)))) ≡ true)
-        → cond b 0 (suc (least n (λ i. test (suc i)))) < suc n → test (cond b 0 (suc (least n (λ i. test (suc i))))) ≡ true
-    go true e f l = e
-    go false e f l = f (omega arith)
-
--- a test does not hold before its least place
-least-before : (n : ℕ) (test : ℕ → Bool) (i : ℕ) → i < least n test → test i ≡ false
-unfolding least
-least-before zero test i h = absurd (omega arith)
-least-before (suc n) test i h = go (test 0) refl i (least-before n (λ k. test (suc k))) h
-  where
-    go : (b : Bool) → test 0 ≡ b → (i : ℕ) → ((k : ℕ) → k < least n (λ i. test (suc i)) → test (suc k) ≡ false)
-        → i < cond b 0 (suc (least n (λ i. test (suc i)))) → test i ≡ false
-    go true e i f l = absurd (omega arith)
-    go false e zero f l = e
-    go false e (suc i) f l = f i (omega arith)
-
--- a digit found other than 0 is so
-nonzero-is : (v : ℕ → ℕ) (j : ℕ) → nonzeroAt v j ≡ true → v j % 3 ≢ 0
-nonzero-is v j e z = true≢false (sym e ∙ ap not (eq-eqb (v j % 3) 0 z))
-
--- a digit not found so is 0
-nonzero-not : (v : ℕ → ℕ) (j : ℕ) → nonzeroAt v j ≡ false → v j % 3 ≡ 0
-nonzero-not v j e = eqb-true (v j % 3) 0 (not-false (eqb (v j % 3) 0) e)
-
--- one turn of the function clears
+-- it clears
 pub cleared-clears : (n t r q : ℕ) (b : ℕ → ℕ → ℕ) → b r q % 3 ≢ 0 → Cleared n t r q (factor r q b) b (cleared r q b)
 cleared-clears n t r q b v =
     record {
@@ -167,40 +138,15 @@ cleared-clears n t r q b v =
             ap (λ (z : ℕ). z % 3) (ap (λ (z : ℕ). z * y) (sym (mul-assoc 2 x y)) ∙ mul-assoc (2 * x) y y)
             ∙ times-congr (2 * x) (y * y) (2 * x) 1 refl (square-one y h) ∙ ap (λ (z : ℕ). z % 3) (mul-one (2 * x))
 
--- from any turn on it meets a zero row exactly if the rows are tied
-eliminated-from : (n t left r : ℕ) (a b : ℕ → ℕ → ℕ) → Reduced n t a b r → r + left ≡ t → eliminated n left r b ≡ tied n t a
-unfolding eliminated
-eliminated-from n t zero r a b x e = sym (ap (λ (u : ℕ). tied n u a) (omega arith) ∙ reduced-untied n t r a b x (omega arith))
-eliminated-from n t (suc left) r a b x e =
-    go (ltb (firstNonzero n (b r)) n) refl (eliminated-from n t left (suc r) a (cleared r (firstNonzero n (b r)) b))
-  where
-    q : ℕ
-    q = firstNonzero n (b r)
-
-    go : (s : Bool) → ltb q n ≡ s → (Reduced n t a (cleared r q b) (suc r) → suc r + left ≡ t → eliminated n left (suc r) (cleared r q b) ≡ tied n t a)
-        → cond s (eliminated n left (suc r) (cleared r q b)) true ≡ tied n t a
-    go true p f =
-        let l : q < n = ltb-true q n p in
-        let v : b r q % 3 ≢ 0 = nonzero-is (b r) q (least-holds n (nonzeroAt (b r)) l) in
-        f (reduced-more n t r q (factor r q b) a b (cleared r q b) x (omega arith) l v (cleared-clears n t r q b v)) (omega arith)
-    go false p f =
-        let l : n ≤ q = ltb-false q n p in
-        sym (tied-more n (suc r) t a (omega arith)
-        (reduced-zero n t r a b x (omega arith) (λ j k. nonzero-not (b r) j (least-before n (nonzeroAt (b r)) j (le-trans k l)))))
-
--- elimination meets a zero row exactly if the rows are tied
-pub eliminated-tied : (n t : ℕ) (a : ℕ → ℕ → ℕ) → eliminated n t 0 a ≡ tied n t a
-eliminated-tied n t a = eliminated-from n t t 0 a a (reduced-none n t a) (omega arith)
-
 -- ---- the diagonal
 
 -- the diagonal rows are not tied
-pub diagonal-untied : (n t : ℕ) → t ≤ n → tied n t unit ≡ false
+pub diagonal-untied : (n t : ℕ) → t ≤ n → tied n t oneAt ≡ false
 diagonal-untied n t h =
-    independent-untied n t unit
-    (pivots-independent n t t unit (λ k. k) (le-refl t)
+    independent-untied n t oneAt
+    (pivots-independent n t t oneAt (λ k. k) (le-refl t)
     (record {
       within = λ k l. le-trans l h;
-      nonzero = λ k l. (λ z. omega (arith, unit-at k));
-      clear = λ k i l m u. ap (λ (x : ℕ). x % 3) (unit-off i k (omega arith));
+      nonzero = λ k l. (λ z. omega (arith, one-there k));
+      clear = λ k i l m u. ap (λ (x : ℕ). x % 3) (one-elsewhere i k (omega arith));
     }))

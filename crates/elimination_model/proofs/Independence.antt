@@ -10,8 +10,8 @@ use native.Mathlib.Omega.{arith}
 use borrow.Author.Tests.{eq-eqb, ne-eqb, lt-ltb}
 use lib.Dec.{T, T-not, not-T, eqb, eqb→eq, lit<}
 use lib.ListN.{getD}
-use Rattle.linear_model.specs.Tables.{sum, every, tabulate, below}
-use Rattle.linear_model.proofs.Tables.{bool-ext, and-left, and-right, and-both, every-at, every-of, length-tabulate, getD-tabulate, below-past}
+use Rattle.linear_model.specs.Tables.{sum, every, tabulate, below, oneAt}
+use Rattle.linear_model.proofs.Tables.{bool-ext, and-left, and-right, and-both, every-at, every-of, length-tabulate, getD-tabulate, small-tabulate, below-past, one-there, one-elsewhere}
 use Rattle.linear_model.proofs.Sums.{sum-ext, sum-zeros, sum-one}
 use Rattle.elimination_model.specs.Independence.{someChoice, digitOf, zeroAt, notAllZero, multiple, combined, zeroSum, ties, tied, AddsToZero, Tie, TieList, Independent}
 use Rattle.elimination_model.proofs.Multiples.{combined-congr}
@@ -67,26 +67,19 @@ tied-list n t a e =
         place = w .0;
         within = w .1;
         nonzero = λ q. T-not (eqb (d (w .0)) 0) (w .2) (rw (eq-eqb (d (w .0)) 0 q) tt);
-        adds = λ j l. eqb→eq (combined t d a j) 0 (every-at n (zeroAt (combined t d a)) (and-right (notAllZero t d) (zeroSum n t a d) (p .passes)) j l);
+        adds = λ j l. eqb→eq (combined t a d j) 0 (every-at n (zeroAt (combined t a d)) (and-right (notAllZero t d) (zeroSum n t a d) (p .passes)) j l);
       },
     )
 
-pub tied-tie : (n t : ℕ) (a : ℕ → ℕ → ℕ) → tied n t a ≡ true → Tie n t a
+tied-tie : (n t : ℕ) (a : ℕ → ℕ → ℕ) → tied n t a ≡ true → Tie n t a
 tied-tie n t a e = let p = tied-list n t a e in (digitOf (p .0), p .2)
-
--- a list of small digits has small digits, also past its end
-small-digits : (n : ℕ) (f : ℕ → ℕ) → ((i : ℕ) → f i < 3) → (i : ℕ) → getD (tabulate n f) i 0 < 3
-unfolding tabulate
-small-digits zero f h i = lit< tt
-small-digits (suc n) f h zero = h 0
-small-digits (suc n) f h (suc i) = small-digits n (λ j. f (suc j)) (λ j. h (suc j)) i
 
 -- what ties is found
 pub tie-tied : (n t : ℕ) (a : ℕ → ℕ → ℕ) → Tie n t a → tied n t a ≡ true
 unfolding tied
 tie-tied n t a x =
     is-true (someChoice t (ties n t a))
-    (found-some t (ties n t a) list (record { size = length-tabulate t (x .0); small = small-digits t (x .0) (x .1 .small) })
+    (found-some t (ties n t a) list (record { size = length-tabulate t (x .0); small = small-tabulate 3 t (x .0) (lit< tt) (x .1 .small) })
     (and-both (notAllZero t (digitOf list)) (zeroSum n t a (digitOf list)) some adding))
   where
     list : List ℕ
@@ -102,8 +95,8 @@ tie-tied n t a x =
 
     adding : T (zeroSum n t a (digitOf list))
     adding =
-        every-of n (zeroAt (combined t (digitOf list) a))
-        (λ j l. rw (eq-eqb (combined t (digitOf list) a j) 0
+        every-of n (zeroAt (combined t a (digitOf list)))
+        (λ j l. rw (eq-eqb (combined t a (digitOf list) j) 0
         (combined-congr t (digitOf list) (x .0) a a j (λ i k. ap (λ (v : ℕ). v % 3) (same i k)) (λ i _. refl) ∙ x .1 .adds j l)) tt)
 
 -- ---- tied or independent
@@ -129,6 +122,14 @@ untied-independent n t a e d z i l = go (ℕ-discrete (d i % 3) 0)
     go (yes p) = p
     go (no h) = absurd (false≢true (sym e ∙ tie-tied n t a (tie-of n t a d z i l h)))
 
+-- rows are tied where others are, if these are independent where they are
+tied-through : (n t m u : ℕ) (a b : ℕ → ℕ → ℕ) → (Independent m u b → Independent n t a) → tied n t a ≡ true → tied m u b ≡ true
+tied-through n t m u a b f e = go (tied m u b) refl
+  where
+    go : (c : Bool) → tied m u b ≡ c → c ≡ true
+    go true q = refl
+    go false q = absurd (true≢false (sym e ∙ independent-untied n t a (f (untied-independent m u b q))))
+
 -- rows that are independent together are tied together
 pub tied-same : (n t m u : ℕ) (a b : ℕ → ℕ → ℕ) → (Independent n t a → Independent m u b) → (Independent m u b → Independent n t a)
     → tied n t a ≡ tied m u b
@@ -137,41 +138,21 @@ tied-same n t m u a b f g = go (tied n t a) (tied m u b) refl refl
     go : (x y : Bool) → tied n t a ≡ x → tied m u b ≡ y → x ≡ y
     go true true p q = refl
     go false false p q = refl
-    go true false p q = absurd (true≢false (sym p ∙ independent-untied n t a (g (untied-independent m u b q))))
-    go false true p q = absurd (true≢false (sym q ∙ independent-untied m u b (f (untied-independent n t a p))))
+    go true false p q = sym (tied-through n t m u a b g p) ∙ q
+    go false true p q = sym p ∙ tied-through m u n t b a f q
 
 -- ---- zero rows, more rows, fewer columns, equal rows
 
--- 1 at r, 0 elsewhere
-abbrev pub unit : ℕ → ℕ → ℕ
-unit r i = cond (eqb i r) 1 0
-
--- it is 1 at r
-pub unit-at : (r : ℕ) → unit r r ≡ 1
-unit-at r = rw (eq-eqb r r refl)
-
--- it is 0 elsewhere
-pub unit-off : (r i : ℕ) → i ≢ r → unit r i ≡ 0
-unit-off r i h = rw (ne-eqb i r h)
-
 -- a sum of one row
-pub combined-unit : (t r : ℕ) (a : ℕ → ℕ → ℕ) (j : ℕ) → r < t → sum t (multiple (unit r) a j) ≡ a r j
-combined-unit t r a j l =
-    sum-one t (multiple (unit r) a j) r l (λ i k h. ap (λ (x : ℕ). x * a i j) (unit-off r i h) ∙ zero-mul (a i j))
-    ∙ ap (λ (x : ℕ). x * a r j) (unit-at r) ∙ one-mul (a r j)
+pub combined-one : (t r : ℕ) (a : ℕ → ℕ → ℕ) (j : ℕ) → r < t → sum t (multiple a (oneAt r) j) ≡ a r j
+combined-one t r a j l =
+    sum-one t (multiple a (oneAt r) j) r l (λ i k h. ap (λ (x : ℕ). x * a i j) (one-elsewhere r i h) ∙ zero-mul (a i j))
+    ∙ ap (λ (x : ℕ). x * a r j) (one-there r) ∙ one-mul (a r j)
 
 -- a zero row ties
 pub zero-row-tie : (n t : ℕ) (a : ℕ → ℕ → ℕ) (r : ℕ) → r < t → ((j : ℕ) → j < n → a r j % 3 ≡ 0) → Tie n t a
 zero-row-tie n t a r l z =
-    tie-of n t a (unit r) (λ j k. ap (λ (x : ℕ). x % 3) (combined-unit t r a j l) ∙ z j k) r l (λ h. omega (arith, unit-at r))
-
--- rows are tied where others are, if these are independent where they are
-tied-through : (n t m u : ℕ) (a b : ℕ → ℕ → ℕ) → (Independent m u b → Independent n t a) → tied n t a ≡ true → tied m u b ≡ true
-tied-through n t m u a b f e = go (tied m u b) refl
-  where
-    go : (c : Bool) → tied m u b ≡ c → c ≡ true
-    go true q = refl
-    go false q = absurd (true≢false (sym e ∙ independent-untied n t a (f (untied-independent m u b q))))
+    tie-of n t a (oneAt r) (λ j k. ap (λ (x : ℕ). x % 3) (combined-one t r a j l) ∙ z j k) r l (λ h. omega (arith, one-there r))
 
 -- rows that are independent are so in every beginning of them
 independent-fewer : (n t u : ℕ) (a : ℕ → ℕ → ℕ) → t ≤ u → Independent n u a → Independent n t a
@@ -181,12 +162,12 @@ independent-fewer n t u a h f d z i l =
     inside : (i : ℕ) → i < t → below t d i ≡ d i
     inside i l = rw (lt-ltb i t l)
 
-    same : (j : ℕ) → sum u (multiple (below t d) a j) ≡ sum t (multiple d a j)
+    same : (j : ℕ) → sum u (multiple a (below t d) j) ≡ sum t (multiple a d j)
     same j =
         let e : u ≡ t + (u - t) = omega arith in
-        ap (λ (x : ℕ). sum x (multiple (below t d) a j)) e
-        ∙ sum-zeros t (u - t) (multiple (below t d) a j) (λ i. ap (λ (x : ℕ). x * a (t + i) j) (below-past t d i) ∙ zero-mul (a (t + i) j))
-        ∙ sum-ext t (multiple (below t d) a j) (multiple d a j) (λ i l. ap (λ (x : ℕ). x * a i j) (inside i l))
+        ap (λ (x : ℕ). sum x (multiple a (below t d) j)) e
+        ∙ sum-zeros t (u - t) (multiple a (below t d) j) (λ i. ap (λ (x : ℕ). x * a (t + i) j) (below-past t d i) ∙ zero-mul (a (t + i) j))
+        ∙ sum-ext t (multiple a (below t d) j) (multiple a d j) (λ i l. ap (λ (x : ℕ). x * a i j) (inside i l))
 
 -- tied rows stay tied with more rows
 pub tied-more : (n t u : ℕ) (a : ℕ → ℕ → ℕ) → t ≤ u → tied n t a ≡ true → tied n u a ≡ true

@@ -4,17 +4,11 @@ use Prim.Native.Nat.{ℕ, zero, suc, _+_, _*_, _%_, _<_}
 use native.Mathlib.Nat.{mul-comm, mul-assoc, mul-add, add-mul}
 use native.Mathlib.Omega.{arith}
 use Rattle.linear_model.specs.Tables.{sum}
-use Rattle.linear_model.proofs.Sums.{sum-ext, sum-congr}
+use Rattle.linear_model.proofs.Sums.{sum-ext, sum-plus, sum-congr}
 use Rattle.elimination_model.specs.Independence.{multiple, combined}
 use Rattle.elimination_model.proofs.Residues.{times-congr}
 
 -- ---- sums
-
--- the sum of two terms at each place is the sum of two sums
-pub sum-plus : (n : ℕ) (f g : ℕ → ℕ) → sum n (λ i. f i + g i) ≡ sum n f + sum n g
-unfolding sum
-sum-plus zero f g = refl
-sum-plus (suc n) f g = omega (arith, sum-plus n f g)
 
 -- a factor may be taken out of a sum
 sum-times : (n : ℕ) (c : ℕ) (f : ℕ → ℕ) → sum n (λ i. c * f i) ≡ c * sum n f
@@ -31,18 +25,18 @@ sum-times-right n c f =
 
 -- digits and rows that agree modulo 3 have the same sum
 pub combined-congr : (t : ℕ) (d e : ℕ → ℕ) (a b : ℕ → ℕ → ℕ) (j : ℕ)
-    → ((i : ℕ) → i < t → d i % 3 ≡ e i % 3) → ((i : ℕ) → i < t → a i j % 3 ≡ b i j % 3) → combined t d a j ≡ combined t e b j
+    → ((i : ℕ) → i < t → d i % 3 ≡ e i % 3) → ((i : ℕ) → i < t → a i j % 3 ≡ b i j % 3) → combined t a d j ≡ combined t b e j
 combined-congr t d e a b j p q =
-    sum-congr 3 t (multiple d a j) (multiple e b j) (λ i l. times-congr (d i) (a i j) (e i) (b i j) (p i l) (q i l))
+    sum-congr 3 t (multiple a d j) (multiple b e j) (λ i l. times-congr (d i) (a i j) (e i) (b i j) (p i l) (q i l))
 
 -- the sum of two choices gives the sum of what they give
 pub combined-plus : (t : ℕ) (d e : ℕ → ℕ) (a : ℕ → ℕ → ℕ) (j : ℕ)
-    → sum t (multiple (λ i. d i + e i) a j) ≡ sum t (multiple d a j) + sum t (multiple e a j)
+    → sum t (multiple a (λ i. d i + e i) j) ≡ sum t (multiple a d j) + sum t (multiple a e j)
 combined-plus t d e a j =
-    sum-ext t (multiple (λ i. d i + e i) a j) (λ i. multiple d a j i + multiple e a j i) (λ i _. add-mul (d i) (e i) (a i j))
-    ∙ sum-plus t (multiple d a j) (multiple e a j)
+    sum-ext t (multiple a (λ i. d i + e i) j) (λ i. multiple a d j i + multiple a e j i) (λ i _. add-mul (d i) (e i) (a i j))
+    ∙ sum-plus t (multiple a d j) (multiple a e j)
 
 -- a choice multiplied gives the multiple
-pub combined-times : (t c : ℕ) (d : ℕ → ℕ) (a : ℕ → ℕ → ℕ) (j : ℕ) → sum t (multiple (λ i. c * d i) a j) ≡ c * sum t (multiple d a j)
+pub combined-times : (t c : ℕ) (d : ℕ → ℕ) (a : ℕ → ℕ → ℕ) (j : ℕ) → sum t (multiple a (λ i. c * d i) j) ≡ c * sum t (multiple a d j)
 combined-times t c d a j =
-    sum-ext t (multiple (λ i. c * d i) a j) (λ i. c * multiple d a j i) (λ i _. mul-assoc c (d i) (a i j)) ∙ sum-times t c (multiple d a j)
+    sum-ext t (multiple a (λ i. c * d i) j) (λ i. c * multiple a d j i) (λ i _. mul-assoc c (d i) (a i j)) ∙ sum-times t c (multiple a d j)

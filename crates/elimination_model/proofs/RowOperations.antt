@@ -1,17 +1,17 @@
 -- Row operations keep what is tied, and rows with pivots are independent.
 use mathlib.Core.Path.{_≡_, refl, sym, ap, _∙_}
-use mathlib.Core.Bool.{not}
 use mathlib.Core.Logic.{_≢_, _⊎_, inl, inr}
 use Prim.Native.Nat.{ℕ, zero, suc, _+_, _*_, _%_, _<_, _≤_}
 use native.Mathlib.Nat.{mod-mod, le-refl, eq-or-lt-of-le, le-of-suc-le-suc, mul-add, mul-assoc, mul-comm}
 use native.Mathlib.Decide.{ℕ-discrete, decLt}
 use native.Mathlib.Omega.{arith}
-use Rattle.linear_model.specs.Tables.{sum}
-use Rattle.linear_model.proofs.Sums.{sum-one, sum-congr, add-congr, mul-congr}
+use Rattle.linear_model.specs.Tables.{sum, oneAt}
+use Rattle.linear_model.proofs.Tables.{one-there, one-elsewhere}
+use Rattle.linear_model.proofs.Sums.{sum-one, sum-plus, sum-congr, add-congr, mul-congr}
 use Rattle.elimination_model.specs.Independence.{multiple, combined, tied, Independent}
 use Rattle.elimination_model.proofs.Residues.{times-congr, times-zero, zero-times, factor-zero}
-use Rattle.elimination_model.proofs.Multiples.{sum-plus, sum-times-right, combined-plus, combined-times}
-use Rattle.elimination_model.proofs.Independence.{unit, unit-at, unit-off, combined-unit, tied-same}
+use Rattle.elimination_model.proofs.Multiples.{sum-times-right, combined-plus, combined-times}
+use Rattle.elimination_model.proofs.Independence.{combined-one, tied-same}
 
 -- ---- pivots
 
@@ -36,14 +36,14 @@ pivots-independent n t r b pivot h p d z i l = before (suc i) l i (le-refl (suc 
     next k l f =
         factor-zero (b k (pivot k)) (d k)
         (ap (λ (x : ℕ). x % 3) (mul-comm (b k (pivot k)) (d k))
-        ∙ sym (sum-one-third r (multiple d b (pivot k)) k l others)
+        ∙ sym (sum-one-third r (multiple b d (pivot k)) k l others)
         ∙ z (pivot k) (p .within k l))
         (p .nonzero k l)
       where
-        others : (i : ℕ) → i < r → i ≢ k → multiple d b (pivot k) i % 3 ≡ 0
+        others : (i : ℕ) → i < r → i ≢ k → multiple b d (pivot k) i % 3 ≡ 0
         others i m u = go (decLt i k)
           where
-            go : Dec (i < k) → multiple d b (pivot k) i % 3 ≡ 0
+            go : Dec (i < k) → multiple b d (pivot k) i % 3 ≡ 0
             go (yes v) = zero-times (d i) (b i (pivot k)) (f i v)
             go (no v) = times-zero (d i) (b i (pivot k)) (p .clear k i l (omega arith) (omega arith))
 
@@ -87,27 +87,27 @@ added-independent n t r c a b h x f d z i l = go (ℕ-discrete i r)
     extra = sum t (λ i. d i * c i)
 
     e : ℕ → ℕ
-    e i = d i + extra * unit r i
+    e i = d i + extra * oneAt r i
 
-    on-a : (j : ℕ) → sum t (multiple e a j) ≡ sum t (multiple d a j) + extra * a r j
+    on-a : (j : ℕ) → sum t (multiple a e j) ≡ sum t (multiple a d j) + extra * a r j
     on-a j =
-        combined-plus t d (λ i. extra * unit r i) a j
-        ∙ ap (λ (v : ℕ). sum t (multiple d a j) + v) (combined-times t extra (unit r) a j ∙ ap (λ (v : ℕ). extra * v) (combined-unit t r a j h))
+        combined-plus t d (λ i. extra * oneAt r i) a j
+        ∙ ap (λ (v : ℕ). sum t (multiple a d j) + v) (combined-times t extra (oneAt r) a j ∙ ap (λ (v : ℕ). extra * v) (combined-one t r a j h))
 
-    on-b : (j : ℕ) → j < n → combined t d b j ≡ (sum t (multiple d a j) + extra * a r j) % 3
+    on-b : (j : ℕ) → j < n → combined t b d j ≡ (sum t (multiple a d j) + extra * a r j) % 3
     on-b j k =
-        sum-congr 3 t (multiple d b j) (λ i. d i * a i j + d i * c i * a r j)
+        sum-congr 3 t (multiple b d j) (λ i. d i * a i j + d i * c i * a r j)
         (λ i l. mul-congr 3 (d i) (b i j) (a i j + c i * a r j) (x .is i j l k)
         ∙ ap (λ (v : ℕ). v % 3) (mul-add (d i) (a i j) (c i * a r j) ∙ ap (λ (v : ℕ). d i * a i j + v) (sym (mul-assoc (d i) (c i) (a r j)))))
         ∙ ap (λ (v : ℕ). v % 3)
-        (sum-plus t (multiple d a j) (λ i. d i * c i * a r j) ∙ ap (λ (v : ℕ). sum t (multiple d a j) + v) (sum-times-right t (a r j) (λ i. d i * c i)))
+        (sum-plus t (multiple a d j) (λ i. d i * c i * a r j) ∙ ap (λ (v : ℕ). sum t (multiple a d j) + v) (sum-times-right t (a r j) (λ i. d i * c i)))
 
     zero-e : (i : ℕ) → i < t → e i % 3 ≡ 0
     zero-e = f e (λ j k. ap (λ (v : ℕ). v % 3) (on-a j) ∙ sym (on-b j k) ∙ z j k)
 
     other : (i : ℕ) → i < t → i ≢ r → d i % 3 ≡ 0
     other i l u =
-        let q : e i ≡ d i = ap (λ (v : ℕ). d i + extra * v) (unit-off r i u) ∙ omega arith in
+        let q : e i ≡ d i = ap (λ (v : ℕ). d i + extra * v) (one-elsewhere r i u) ∙ omega arith in
         ap (λ (v : ℕ). v % 3) (sym q) ∙ zero-e i l
 
     extra-zero : extra % 3 ≡ 0
@@ -117,7 +117,7 @@ added-independent n t r c a b h x f d z i l = go (ℕ-discrete i r)
     go : Dec (i ≡ r) → d i % 3 ≡ 0
     go (no u) = other i l u
     go (yes u) =
-        let q : e r ≡ d r + extra = ap (λ (v : ℕ). d r + extra * v) (unit-at r) ∙ omega arith in
+        let q : e r ≡ d r + extra = ap (λ (v : ℕ). d r + extra * v) (one-there r) ∙ omega arith in
         let w : (d r + extra) % 3 ≡ 0 = ap (λ (v : ℕ). v % 3) (sym q) ∙ zero-e r h in
         ap (λ (v : ℕ). d v % 3) u ∙ omega (arith, extra-zero, w)
 

@@ -32,16 +32,16 @@ notAllZero t d = not (every t (zeroAt d))
 -- ---- rows: a i j is the digit of row i in column j
 
 -- row i multiplied by digit i, in column j
-abbrev pub multiple : (ℕ → ℕ) → (ℕ → ℕ → ℕ) → ℕ → ℕ → ℕ
-multiple d a j i = d i * a i j
+abbrev pub multiple : (ℕ → ℕ → ℕ) → (ℕ → ℕ) → ℕ → ℕ → ℕ
+multiple a d j i = d i * a i j
 
 -- column j of the sum modulo 3 of the first t rows so multiplied
-abbrev pub combined : ℕ → (ℕ → ℕ) → (ℕ → ℕ → ℕ) → ℕ → ℕ
-combined t d a j = sum t (multiple d a j) % 3
+abbrev pub combined : ℕ → (ℕ → ℕ → ℕ) → (ℕ → ℕ) → ℕ → ℕ
+combined t a d j = sum t (multiple a d j) % 3
 
 -- the first t rows so multiplied add to the zero row of n columns
 abbrev pub zeroSum : ℕ → ℕ → (ℕ → ℕ → ℕ) → (ℕ → ℕ) → Bool
-zeroSum n t a d = every n (zeroAt (combined t d a))
+zeroSum n t a d = every n (zeroAt (combined t a d))
 
 -- the choice ties the first t rows
 abbrev pub ties : ℕ → ℕ → (ℕ → ℕ → ℕ) → List ℕ → Bool
@@ -53,7 +53,7 @@ tied n t a = someChoice t (ties n t a)
 
 -- the first t rows so multiplied add to the zero row, as a fact
 abbrev pub AddsToZero : ℕ → ℕ → (ℕ → ℕ → ℕ) → (ℕ → ℕ) → Type 0
-AddsToZero n t a d = (j : ℕ) → j < n → combined t d a j ≡ 0
+AddsToZero n t a d = (j : ℕ) → j < n → combined t a d j ≡ 0
 
 -- digits that tie the first t rows, as a fact: each is 0, 1 or 2, one of them is not 0, and the rows so multiplied add to zero
 pub record TiedBy (n t : ℕ) (a : ℕ → ℕ → ℕ) (digits : ℕ → ℕ) : Type 0 where

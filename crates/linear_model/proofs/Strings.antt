@@ -85,7 +85,7 @@ unfolding pack
 bytes-pack n f h =
     record {
       size = length-pack n f;
-      small = small-tabulate n (byteOf f) (λ i. from-bits-lt 8 (λ k. f (8 * i + k)) (λ k. h (8 * i + k)));
+      small = small-tabulate 256 n (byteOf f) (lit< tt) (λ i. from-bits-lt 8 (λ k. f (8 * i + k)) (λ k. h (8 * i + k)));
     }
 
 small-take : (n : ℕ) (s : List ℕ) → ((i : ℕ) → getD s i 0 < 256) → (i : ℕ) → getD (take n s) i 0 < 256

@@ -34,6 +34,12 @@ unfolding sum
 sum-ext zero f g e = refl
 sum-ext (suc n) f g e = ap₂ _+_ (sum-ext n f g (λ i h. e i (omega arith))) (e n (le-refl (suc n)))
 
+-- the sum of two terms at each place is the sum of two sums
+pub sum-plus : (n : ℕ) (f g : ℕ → ℕ) → sum n (λ i. f i + g i) ≡ sum n f + sum n g
+unfolding sum
+sum-plus zero f g = refl
+sum-plus (suc n) f g = omega (arith, sum-plus n f g)
+
 -- terms that are 0 add nothing
 pub sum-zeros : (m k : ℕ) (f : ℕ → ℕ) → ((i : ℕ) → f (m + i) ≡ 0) → sum (m + k) f ≡ sum m f
 unfolding sum

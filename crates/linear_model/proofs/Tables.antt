@@ -1,14 +1,14 @@
--- Laws of `tabulate`, `below` and `every`, and tests that antt computes over all small numbers.
+-- Laws of `tabulate`, `below`, `oneAt` and `every`, and tests that antt computes over all small numbers.
 use mathlib.Core.Path.{_≡_, refl, sym, subst, ap}
 use mathlib.Core.Bool.{Bool, true, false, _&&_}
 use mathlib.Core.List.{List, [], _∷_}
-use mathlib.Core.Logic.{⊎-elim}
+use mathlib.Core.Logic.{_≢_, ⊎-elim}
 use Prim.Native.Nat.{ℕ, zero, suc, _+_, _<_, _≤_, suc-le-suc}
 use native.Mathlib.Nat.{not-suc-le-zero, le-of-suc-le-suc, zero-lt-suc, le-step, le-refl, le-add-right, lt-of-lt-of-le, eq-or-lt-of-le}
-use borrow.Author.Tests.{le-ltb}
+use borrow.Author.Tests.{eq-eqb, ne-eqb, le-ltb}
 use lib.Dec.{T, eqb, eqb→eq, lit<}
 use lib.ListN.{length, getD}
-use Rattle.linear_model.specs.Tables.{tabulate, below, every}
+use Rattle.linear_model.specs.Tables.{tabulate, below, every, oneAt}
 
 -- ---- lists
 
@@ -38,16 +38,24 @@ unfolding tabulate
 tabulate-getD [] = refl
 tabulate-getD (x ∷ s) = ap {B = List ℕ} (λ r. x ∷ r) (tabulate-getD s)
 
--- a table of bytes has bytes at every place
-pub small-tabulate : (n : ℕ) (f : ℕ → ℕ) → ((i : ℕ) → f i < 256) → (i : ℕ) → getD (tabulate n f) i 0 < 256
+-- a table of numbers below a bound has such numbers at every place, also past its end
+pub small-tabulate : (b n : ℕ) (f : ℕ → ℕ) → 0 < b → ((i : ℕ) → f i < b) → (i : ℕ) → getD (tabulate n f) i 0 < b
 unfolding tabulate
-small-tabulate zero f h i = lit< tt
-small-tabulate (suc n) f h zero = h 0
-small-tabulate (suc n) f h (suc i) = small-tabulate n (λ j. f (suc j)) (λ j. h (suc j)) i
+small-tabulate b zero f p h i = p
+small-tabulate b (suc n) f p h zero = h 0
+small-tabulate b (suc n) f p h (suc i) = small-tabulate b n (λ j. f (suc j)) p (λ j. h (suc j)) i
 
 -- past t there is nothing below t
 pub below-past : (t : ℕ) (f : ℕ → ℕ) (i : ℕ) → below t f (t + i) ≡ 0
 below-past t f i = rw (le-ltb (t + i) t (le-add-right t i))
+
+-- `oneAt i` is 1 at i
+pub one-there : (i : ℕ) → oneAt i i ≡ 1
+one-there i = rw (eq-eqb i i refl)
+
+-- and 0 elsewhere
+pub one-elsewhere : (i j : ℕ) → j ≢ i → oneAt i j ≡ 0
+one-elsewhere i j h = rw (ne-eqb i j (λ e. h (sym e)))
 
 -- ---- tests
 

@@ -1,5 +1,5 @@
-// A matrix file of any layout that fits, with room for the elimination: its check, its reader and its writer. Each first decides its number, over the whole of what
-// it reads, and then writes.
+// A matrix file of any layout that fits, with room for the elimination: its check, its reader and its writer. Each first decides its
+// number, over the whole of what it reads, and then writes.
 ghost use mathlib.Core.Path.{_≡_};
 ghost use mathlib.Core.List.{_++_};
 ghost use Prim.Native.Nat.{_≤_};

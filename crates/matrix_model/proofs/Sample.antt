@@ -1,42 +1,33 @@
 -- The matrix of the paper's sample is fit, and so are the diagonal rows of every layout with no more rows than columns.
-use Prim.Native.Nat.{ℕ, _*_, _%_, _<_, _≤_}
-use mathlib.Core.Path.{_≡_, refl, sym, ap, _∙_}
+use Prim.Native.Nat.{ℕ, _*_, _<_, _≤_}
+use mathlib.Core.Path.{_≡_, refl, _∙_}
 use mathlib.Core.Bool.{Bool, true, false, cond}
-use lib.Dec.{T, eqb, eqb→eq, lit<, lit≤}
+use lib.Dec.{eqb, lit<, lit≤}
 use lib.ListN.{drop}
+use Rattle.linear_model.specs.Tables.{oneAt}
 use Rattle.linear_model.specs.Trits.{trit}
-use Rattle.linear_model.proofs.Tables.{bool-ext}
-use Rattle.elimination_model.proofs.Independence.{unit, tied-congr}
 use Rattle.elimination_model.proofs.Elimination.{diagonal-untied}
-use Rattle.numbers.proofs.Numbers.{first-zero, equal, holds}
+use Rattle.numbers.proofs.Numbers.{first-zero}
 use Rattle.matrix_model.specs.Block.{Layout}
 use Rattle.matrix_model.specs.File.{Fits, matrixB, rowPlaneOf, fileFrom, tiedRowsOf, rowFaultsOf, SurvivesOf}
-use Rattle.matrix_model.specs.Sample.{oneAt, diagonalRows, sampleFile}
+use Rattle.matrix_model.specs.Sample.{diagonalRows, sampleFile}
 use Rattle.matrix_model.proofs.RoundTrip.{survives}
 use Rattle.matrix_model.proofs.Layouts.{first-fits}
 use Rattle.matrix_model.proofs.PackedRows.{length-packed, packed-trit, packed-fit, packed-tied}
 
--- a digit is 0 or 1
-pub one-at-small : (i j : ℕ) → oneAt i j < 3
-one-at-small i j = go (eqb i j)
-  where
-    go : (b : Bool) → cond b 1 0 < 3
-    go true = lit< tt
-    go false = lit< tt
+-- 1 and 0 are digits
+pub one-small : (b : Bool) → cond b 1 0 < 3
+one-small true = lit< tt
+one-small false = lit< tt
 
--- row i is the unit row that has its 1 in column i
-one-at-unit : (i j : ℕ) → oneAt i j ≡ unit i j
-one-at-unit i j = ap (λ (b : Bool). cond b 1 0) (bool-ext (eqb i j) (eqb j i) (turned i j) (turned j i))
-  where
-    turned : (i j : ℕ) → T (eqb i j) → T (eqb j i)
-    turned i j t = holds (eqb j i) (equal j i (sym (eqb→eq i j t)))
+pub one-at-small : (i j : ℕ) → oneAt i j < 3
+one-at-small i j = one-small (eqb i j)
 
 module _ (layout : Layout) (fits : Fits layout) (columns : layout .rowCount ≤ 8 * rowPlaneOf layout) where
   -- the diagonal rows are not tied
   diagonal-rows-untied : tiedRowsOf layout (diagonalRows layout) ≡ false
   diagonal-rows-untied =
       packed-tied layout (fits .two-planes) oneAt one-at-small
-      ∙ tied-congr (8 * rowPlaneOf layout) (layout .rowCount) oneAt unit (λ i j l m. ap (λ (x : ℕ). x % 3) (one-at-unit i j))
       ∙ diagonal-untied (8 * rowPlaneOf layout) (layout .rowCount) columns
 
   -- so their file is fit, and has these rows

@@ -1,83 +1,68 @@
--- What shows that 12 says what it must: rows that are tied by a multiple or a sum, and all of the evidence.
-use Prim.Native.Nat.{ℕ, zero, suc, _+_, _-_, _*_, _%_, _<_}
+-- What shows that 12 says what it must: a combination of other rows in place of a row, and all of the evidence.
+use Prim.Native.Nat.{ℕ, zero, suc, _+_, _-_, _*_, _%_, _<_, _≤_}
 use mathlib.Core.Path.{_≡_, refl, sym, ap, ap₂, _∙_}
 use mathlib.Core.List.{List}
 use mathlib.Core.Bool.{Bool, true, false, cond, true≢false}
 use mathlib.Core.Logic.{_≢_}
-use native.Mathlib.Nat.{le-refl, one-mul, zero-add, mod-mod}
-use native.Mathlib.Decide.{ℕ-discrete}
+use native.Mathlib.Nat.{le-refl, zero-mul, mul-zero, mul-one, zero-add}
+use native.Mathlib.Decide.{ℕ-discrete, decLt}
 use native.Mathlib.Omega.{arith}
-use borrow.Author.Tests.{eq-eqb, ne-eqb, lt-ltb, le-ltb}
+use borrow.Author.Tests.{eq-eqb, ne-eqb, le-ltb}
 use lib.Dec.{T, not-T, eqb, eqb→eq, ltb, lit<, lit≤}
-use Rattle.linear_model.specs.Tables.{sum, every}
+use Rattle.linear_model.specs.Tables.{sum, every, oneAt}
 use Rattle.linear_model.specs.Trits.{trit, zeroTrit, zeroTrits}
 use Rattle.linear_model.specs.Products.{rowsFrom}
-use Rattle.linear_model.proofs.Tables.{every-at}
-use Rattle.linear_model.proofs.Sums.{sum-ext}
-use Rattle.elimination_model.specs.Independence.{multiple, AddsToZero, tied, tritAt}
+use Rattle.linear_model.proofs.Tables.{every-at, one-there, one-elsewhere}
+use Rattle.linear_model.proofs.Sums.{sum-ext, sum-zero, sum-one}
+use Rattle.elimination_model.specs.Independence.{multiple, combined, AddsToZero, tied, tritAt}
 use Rattle.elimination_model.proofs.Multiples.{combined-plus, combined-times}
-use Rattle.elimination_model.proofs.Independence.{unit, unit-at, unit-off, combined-unit, tie-of, tie-tied, zero-row-tie, untied-independent}
+use Rattle.elimination_model.proofs.Independence.{combined-one, tie-of, tie-tied, zero-row-tie, untied-independent, tied-more, tied-narrower}
 use Rattle.elimination_model.proofs.Elimination.{diagonal-untied}
 use Rattle.elimination_model.proofs.Packed.{tied-choice, choice-tied, zero-row-tied}
-use Rattle.numbers.specs.Number.{first}
 use Rattle.numbers.proofs.Numbers.{is-false}
-use Rattle.matrix_model.specs.File.{rowFaultsOf, layoutOf, matrixB}
-use Rattle.matrix_model.specs.Sample.{oneAt}
-use Rattle.matrix_model.specs.TieEvidence.{withRow, timesRowThree, rowFiveTied, column, sumBefore, lastRowTied, TieEvidence}
+use Rattle.matrix_model.specs.Block.{Layout}
+use Rattle.matrix_model.specs.File.{rowPlaneOf, layoutOf, matrixB}
+use Rattle.matrix_model.specs.TieEvidence.{withRow, Combination, TiedRow, timesRowThree, rowFiveTied, sumBefore, TieEvidence}
 use Rattle.matrix_model.proofs.Layouts.{first-fits, second-fits, third-fits}
 use Rattle.matrix_model.proofs.PackedRows.{packed-trit, packed-refused}
-use Rattle.matrix_model.proofs.Sample.{one-at-small, diagonal-survives}
+use Rattle.matrix_model.proofs.Sample.{one-small, one-at-small, diagonal-survives}
 
 -- ---- rows of any digits
 
--- row i is c times row j: one row i and 2c rows j add to zero
-multiple-tied : (n t : ℕ) (a : ℕ → ℕ → ℕ) (i j c : ℕ) → i < t → j < t → i ≢ j → ((k : ℕ) → k < n → a i k % 3 ≡ c * a j k % 3) → tied n t a ≡ true
-multiple-tied n t a i j c li lj d e = tie-tied n t a (tie-of n t a digits adds i li nonzero)
+-- row r is a combination of the others: it and twice the others so multiplied add to zero
+combination-tied : (n t r : ℕ) (a : ℕ → ℕ → ℕ) (d : ℕ → ℕ) → r < t → d r ≡ 0 → ((k : ℕ) → k < n → a r k % 3 ≡ combined t a d k) → tied n t a ≡ true
+combination-tied n t r a d l z e = tie-tied n t a (tie-of n t a digits adds r l nonzero)
   where
-    rest : ℕ → ℕ
-    rest k = 2 * c * unit j k
-
     digits : ℕ → ℕ
-    digits k = unit i k + rest k
+    digits i = oneAt r i + 2 * d i
 
-    total : (k : ℕ) → sum t (multiple digits a k) ≡ a i k + 2 * c * a j k
+    total : (k : ℕ) → sum t (multiple a digits k) ≡ a r k + 2 * sum t (multiple a d k)
     total k =
-        combined-plus t (unit i) rest a k
-        ∙ ap₂ _+_ (combined-unit t i a k li) (combined-times t (2 * c) (unit j) a k ∙ ap (λ (x : ℕ). 2 * c * x) (combined-unit t j a k lj))
+        combined-plus t (oneAt r) (λ i. 2 * d i) a k
+        ∙ ap₂ _+_ (combined-one t r a k l) (combined-times t 2 d a k)
 
     adds : AddsToZero n t a digits
-    adds k l = ap (λ (x : ℕ). x % 3) (total k) ∙ omega (arith, e k l)
+    adds k m = ap (λ (x : ℕ). x % 3) (total k) ∙ omega (arith, e k m)
 
-    nonzero : digits i % 3 ≢ 0
-    nonzero z =
-        let s : digits i ≡ 1 = ap₂ (λ (x y : ℕ). x + 2 * c * y) (unit-at i) (unit-off j i d) ∙ omega arith in
-        omega arith
+    nonzero : digits r % 3 ≢ 0
+    nonzero q = let s : digits r ≡ 1 = ap₂ (λ (x y : ℕ). x + 2 * y) (one-there r) z in omega arith
 
--- row t is the sum of those before it: they and twice row t add to zero
-sum-tied : (n t : ℕ) (a : ℕ → ℕ → ℕ) → ((j : ℕ) → j < n → a t j % 3 ≡ sum t (column a j) % 3) → tied n (suc t) a ≡ true
-unfolding sum
-sum-tied n t a e = tie-tied n (suc t) a (tie-of n (suc t) a digits adds t (le-refl (suc t)) (λ z. omega (arith, last)))
+-- in column k the rows of the diagonal, so multiplied, add to digit k
+diagonal-combined : (t : ℕ) (d : ℕ → ℕ) → ((j : ℕ) → t ≤ j → d j ≡ 0) → (k : ℕ) → sum t (multiple oneAt d k) ≡ d k
+diagonal-combined t d w k = go (decLt k t)
   where
-    digits : ℕ → ℕ
-    digits i = cond (ltb i t) 1 2
+    off : (i : ℕ) → i ≢ k → d i * oneAt i k ≡ 0
+    off i h = ap (λ (x : ℕ). d i * x) (one-elsewhere i k (λ e. h (sym e))) ∙ mul-zero (d i)
 
-    last : digits t ≡ 2
-    last = ap (λ (b : Bool). cond b 1 2) (le-ltb t t (le-refl t))
-
-    before : (j : ℕ) → sum t (multiple digits a j) ≡ sum t (column a j)
-    before j = sum-ext t (multiple digits a j) (column a j) (λ i l. ap (λ (b : Bool). cond b 1 2 * a i j) (lt-ltb i t l) ∙ one-mul (a i j))
-
-    total : (j : ℕ) → sum (suc t) (multiple digits a j) ≡ sum t (column a j) + 2 * a t j
-    total j = ap₂ (λ (x y : ℕ). x + y * a t j) (before j) last
-
-    adds : AddsToZero n (suc t) a digits
-    adds j l = ap (λ (x : ℕ). x % 3) (total j) ∙ omega (arith, e j l)
+    go : Dec (k < t) → sum t (multiple oneAt d k) ≡ d k
+    go (yes l) = sum-one t (multiple oneAt d k) k l (λ i _ h. off i h) ∙ ap (λ (x : ℕ). d k * x) (one-there k) ∙ mul-one (d k)
+    go (no l) = sum-zero t (multiple oneAt d k) (λ i m. off i (omega arith)) ∙ sym (w k (omega arith))
 
 -- two rows of the diagonal are tied in one column
-one-column : tied 1 2 unit ≡ true
-one-column = tie-tied 1 2 unit (zero-row-tie 1 2 unit 1 (lit< tt) at)
+one-column : tied 1 2 oneAt ≡ true
+one-column = tie-tied 1 2 oneAt (zero-row-tie 1 2 oneAt 1 (lit< tt) at)
   where
-    at : (j : ℕ) → j < 1 → unit 1 j % 3 ≡ 0
+    at : (j : ℕ) → j < 1 → oneAt 1 j % 3 ≡ 0
     at zero l = refl
     at (suc j) l = absurd (omega arith)
 
@@ -90,29 +75,41 @@ with-row-small r row h i j = go (eqb i r)
     go true = h j
     go false = one-at-small i j
 
-row-five-small : (c : ℕ) → c < 3 → (i j : ℕ) → withRow 5 (timesRowThree c) i j < 3
-row-five-small c l = with-row-small 5 (timesRowThree c) (λ j. small (eqb 3 j))
+-- the diagonal with a combination of the other rows in place of row r is tied
+with-row-tied : (n t r : ℕ) (d : ℕ → ℕ) → r < t → Combination t r d → tied n t (withRow r d) ≡ true
+with-row-tied n t r d l c = combination-tied n t r (withRow r d) d l (c .others) (λ k _. ap (λ (x : ℕ). x % 3) (own k ∙ sym (total k)))
+  where
+    own : (k : ℕ) → withRow r d r k ≡ d k
+    own k = ap (λ (b : Bool). cond b (d k) (oneAt r k)) (eq-eqb r r refl)
+
+    -- row r counts for nothing, since its digit is 0
+    same : (k i : ℕ) → multiple (withRow r d) d k i ≡ multiple oneAt d k i
+    same k i = go (ℕ-discrete i r)
+      where
+        none : (x : ℕ) → d i ≡ 0 → d i * x ≡ 0
+        none x z = ap (λ (y : ℕ). y * x) z ∙ zero-mul x
+
+        go : Dec (i ≡ r) → d i * withRow r d i k ≡ d i * oneAt i k
+        go (yes e) = none (withRow r d i k) (ap d e ∙ c .others) ∙ sym (none (oneAt i k) (ap d e ∙ c .others))
+        go (no h) = ap (λ (b : Bool). d i * cond b (d k) (oneAt i k)) (ne-eqb i r h)
+
+    total : (k : ℕ) → sum t (multiple (withRow r d) d k) ≡ d k
+    total k = sum-ext t (multiple (withRow r d) d k) (multiple oneAt d k) (λ i _. same k i) ∙ diagonal-combined t d (c .within) k
+
+-- so the number is 12
+tied-row : (layout : Layout) → layout .rowBytes % 2 ≡ 0 → TiedRow layout
+tied-row layout e r d l c =
+    packed-refused layout e (withRow r d) (with-row-small r d (c .small)) (with-row-tied (8 * rowPlaneOf layout) (layout .rowCount) r d l c)
+
+row-three : (c : ℕ) → c < 3 → Combination 81 5 (timesRowThree c)
+row-three c l = record { small = λ j. small (eqb 3 j); others = mul-zero c; within = λ j h. ap (λ (x : ℕ). c * x) (one-elsewhere 3 j (omega arith)) ∙ mul-zero c }
   where
     small : (b : Bool) → c * cond b 1 0 < 3
     small true = omega arith
     small false = omega arith
 
--- row 5 is zero, equal to row 3, or twice row 3: the number is 12
-multiple-refused : (c : ℕ) → c < 3 → first (rowFaultsOf matrixB (rowFiveTied c)) ≡ 12
-multiple-refused c l =
-    packed-refused matrixB refl (withRow 5 (timesRowThree c)) (row-five-small c l)
-    (multiple-tied 256 81 (withRow 5 (timesRowThree c)) 5 3 c (lit< tt) (lit< tt) (λ e. omega arith) (λ k m. refl))
-
--- row 80 is the sum of all before it: the number is 12
-sum-refused : first (rowFaultsOf matrixB lastRowTied) ≡ 12
-sum-refused =
-    packed-refused matrixB refl (withRow 80 sumBefore) (with-row-small 80 sumBefore (λ j. omega arith))
-    (sum-tied 256 80 (withRow 80 sumBefore)
-    (λ j l. mod-mod (sum 80 (column oneAt j)) 3
-    ∙ ap (λ (x : ℕ). x % 3) (sum-ext 80 (column oneAt j) (column (withRow 80 sumBefore) j) (λ i m. sym (before i j m)))))
-  where
-    before : (i j : ℕ) → i < 80 → withRow 80 sumBefore i j ≡ oneAt i j
-    before i j m = ap (λ (b : Bool). cond b (sumBefore j) (oneAt i j)) (ne-eqb i 80 (λ e. omega arith))
+all-before : Combination 81 80 sumBefore
+all-before = record { small = λ j. one-small (ltb j 80); others = refl; within = λ j h. ap (λ (b : Bool). cond b 1 0) (le-ltb j 80 (omega arith)) }
 
 -- a row with a trit other than 0 is no zero row
 not-zero : (m : ℕ) (v : List ℕ) (j : ℕ) → j < 8 * m → trit m v j ≢ 0 → zeroTrits m 0 v ≡ false
@@ -130,13 +127,13 @@ no-zero-row i l = go (ℕ-discrete i 5)
     f = withRow 5 (timesRowThree 2)
 
     trits : (j : ℕ) → j < 256 → trit 32 (rowsFrom 32 (rowFiveTied 2) i) j ≡ f i j
-    trits = packed-trit matrixB refl f (row-five-small 2 (lit< tt)) i l
+    trits = packed-trit matrixB refl f (with-row-small 5 (timesRowThree 2) (row-three 2 (lit< tt) .small)) i l
 
     go : Dec (i ≡ 5) → zeroTrits 32 0 (rowsFrom 32 (rowFiveTied 2) i) ≡ false
     go (yes e) = not-zero 32 (rowsFrom 32 (rowFiveTied 2) i) 3 (lit< tt) (λ z. omega (arith, sym (trits 3 (lit< tt) ∙ ap (λ (r : ℕ). f r 3) e) ∙ z))
     go (no n) =
         not-zero 32 (rowsFrom 32 (rowFiveTied 2) i) i (omega arith)
-        (λ z. omega (arith, sym (trits i (omega arith) ∙ ap (λ (b : Bool). cond b (timesRowThree 2 i) (oneAt i i)) (ne-eqb i 5 n) ∙ ap (λ (b : Bool). cond b 1 0) (eq-eqb i i refl)) ∙ z))
+        (λ z. omega (arith, sym (trits i (omega arith) ∙ ap (λ (b : Bool). cond b (timesRowThree 2 i) (oneAt i i)) (ne-eqb i 5 n) ∙ one-there i) ∙ z))
 
 pub tie-evidence : TieEvidence
 tie-evidence =
@@ -148,10 +145,15 @@ tie-evidence =
       set1 = diagonal-survives (layoutOf 1) first-fits (lit≤ tt);
       set2 = diagonal-survives (layoutOf 2) second-fits (lit≤ tt);
       set3 = diagonal-survives (layoutOf 3) third-fits (lit≤ tt);
-      once = multiple-refused 1 (lit< tt);
-      twice = multiple-refused 2 (lit< tt);
-      sumOfAll = sum-refused;
+      tied1 = tied-row (layoutOf 1) refl;
+      tied2 = tied-row (layoutOf 2) refl;
+      tied3 = tied-row (layoutOf 3) refl;
+      once = tied-row matrixB refl 5 (timesRowThree 1) (lit< tt) (row-three 1 (lit< tt));
+      twice = tied-row matrixB refl 5 (timesRowThree 2) (lit< tt) (row-three 2 (lit< tt));
+      sumOfAll = tied-row matrixB refl 80 sumBefore (lit< tt) all-before;
       noZeroRow = no-zero-row;
-      someColumns = λ h. true≢false (sym one-column ∙ h 1 2 2 unit ∙ diagonal-untied 2 2 (le-refl 2));
-      someRows = λ h. true≢false (sym one-column ∙ h 1 2 1 unit ∙ diagonal-untied 1 1 (le-refl 1));
+      moreRows = tied-more;
+      firstColumns = tied-narrower;
+      someColumns = λ h. true≢false (sym one-column ∙ h 1 2 2 oneAt ∙ diagonal-untied 2 2 (le-refl 2));
+      someRows = λ h. true≢false (sym one-column ∙ h 1 2 1 oneAt ∙ diagonal-untied 1 1 (le-refl 1));
     }

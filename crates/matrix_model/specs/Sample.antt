@@ -1,10 +1,8 @@
 -- Rows of given trits, and the matrix of the paper's sample: row i has trit 1 in column i alone.
 use Prim.Native.Nat.{ℕ, _/_, _%_}
 use mathlib.Core.List.{List}
-use mathlib.Core.Bool.{cond}
-use lib.Dec.{eqb}
 use lib.ListN.{getD}
-use Rattle.linear_model.specs.Tables.{tabulate}
+use Rattle.linear_model.specs.Tables.{tabulate, oneAt}
 use Rattle.linear_model.specs.Trits.{packTrits}
 use Rattle.matrix_model.specs.Block.{Layout}
 use Rattle.matrix_model.specs.File.{rowsSize, rowPlaneOf, fileFrom, matrixB}
@@ -16,10 +14,6 @@ packedByte layout trits k = getD (packTrits (rowPlaneOf layout) (trits (k / layo
 -- these rows, one after the other
 unfoldable pub packedRows : Layout → (ℕ → ℕ → ℕ) → List ℕ
 packedRows layout trits = tabulate (rowsSize layout) (packedByte layout trits)
-
--- 1 at place i, and 0 elsewhere
-abbrev pub oneAt : ℕ → ℕ → ℕ
-oneAt i j = cond (eqb i j) 1 0
 
 -- the diagonal
 abbrev pub diagonalRows : Layout → List ℕ

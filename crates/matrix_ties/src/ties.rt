@@ -2,13 +2,11 @@
 // works on a copy of them in words.
 ghost use mathlib.Core.Path.{_≡_};
 ghost use mathlib.Core.Bool.{not};
-ghost use Prim.Native.Nat.{_*_, _≤_};
 ghost use lib.ListN.{length};
 ghost use Rattle.numbers.specs.Number.{first};
-ghost use Rattle.elimination_model.specs.Independence.{tied, tritAt};
 ghost use Rattle.elimination_model.specs.Internal.Words.{RowsWritten, LoadedWord};
 ghost use Rattle.matrix_model.specs.File.{Fits, rowPlaneOf, tiedRowsOf, rowFaultsOf};
-ghost use Rattle.matrix_model.specs.Internal.Rows.{rowsHeld, heldBytes, Eliminable};
+ghost use Rattle.matrix_model.specs.Internal.Rows.{rowsHeld, heldBytes, Eliminable, Loadable, tiedInColumns};
 ghost use Rattle.matrix_blocks.specs.Layouts.{layoutIn};
 use elimination::elimination::first_tied;
 use elimination::rows::load_rows;
@@ -36,10 +34,7 @@ const WORDS_3: usize = BITS_3 / 32 * DIGITS_3;
 
 // Loads the first `v` words of each plane of all rows, block by block.
 fn load(layout: Layout, s: &[u8], in_blocks: bool, v: usize, words: &mut [u64])
-    requires { ⌜
-        Fits (layoutIn layout) × (length (now s) ≡ heldBytes (layoutIn layout) «in_blocks») × (8 * v ≤ rowPlaneOf (layoutIn layout))
-        × (2 * v * layoutIn layout .rowCount ≤ length (now words))
-        ⌝ }
+    requires { ⌜ Loadable (layoutIn layout) «in_blocks» (now s) v (length (now words)) ⌝ }
     ensures { λ _. ⌜
         RowsWritten v 0 (layoutIn layout .rowCount) (LoadedWord (rowPlaneOf (layoutIn layout)) (rowsHeld (layoutIn layout) «in_blocks» (now (s .entry))))
         (now (words .entry)) (now (words .exit))
@@ -64,11 +59,8 @@ fn load(layout: Layout, s: &[u8], in_blocks: bool, v: usize, words: &mut [u64])
 
 // Whether the rows are tied in the columns of their first `v` words. What is left in the words is not said.
 fn tied_in(layout: Layout, s: &[u8], in_blocks: bool, v: usize, words: &mut [u64]) -> bool
-    requires { ⌜
-        Fits (layoutIn layout) × (length (now s) ≡ heldBytes (layoutIn layout) «in_blocks») × (8 * v ≤ rowPlaneOf (layoutIn layout))
-        × (2 * v * layoutIn layout .rowCount ≤ length (now words)) × (v ≤ 8)
-        ⌝ }
-    ensures { λ r. ⌜ r ≡ tied (64 * v) (layoutIn layout .rowCount) (tritAt (rowPlaneOf (layoutIn layout)) (rowsHeld (layoutIn layout) «in_blocks» (now (s .entry)))) ⌝ }
+    requires { ⌜ Loadable (layoutIn layout) «in_blocks» (now s) v (length (now words)) ⌝ }
+    ensures { λ r. ⌜ r ≡ tiedInColumns (layoutIn layout) v (rowsHeld (layoutIn layout) «in_blocks» (now (s .entry))) ⌝ }
 {
     load(layout, s, in_blocks, v, words);
     first_tied(words, v, layout.row_count) < layout.row_count
@@ -77,11 +69,8 @@ fn tied_in(layout: Layout, s: &[u8], in_blocks: bool, v: usize, words: &mut [u64
 // The same, in words of its own, as many as the rows of set 1 have. There is such a function for each set and not one with three arrays:
 // arrays of different functions get one place in a caller's frame, those of one function a place each.
 fn tied_in_words_1(layout: Layout, s: &[u8], in_blocks: bool, v: usize) -> bool
-    requires { ⌜
-        Fits (layoutIn layout) × (length (now s) ≡ heldBytes (layoutIn layout) «in_blocks») × (8 * v ≤ rowPlaneOf (layoutIn layout))
-        × (2 * v * layoutIn layout .rowCount ≤ 648) × (v ≤ 8)
-        ⌝ }
-    ensures { λ r. ⌜ r ≡ tied (64 * v) (layoutIn layout .rowCount) (tritAt (rowPlaneOf (layoutIn layout)) (rowsHeld (layoutIn layout) «in_blocks» (now (s .entry)))) ⌝ }
+    requires { ⌜ Loadable (layoutIn layout) «in_blocks» (now s) v 648 ⌝ }
+    ensures { λ r. ⌜ r ≡ tiedInColumns (layoutIn layout) v (rowsHeld (layoutIn layout) «in_blocks» (now (s .entry))) ⌝ }
 {
     let mut words = [0u64; WORDS_1];
     tied_in(layout, s, in_blocks, v, &mut words)
@@ -89,11 +78,8 @@ fn tied_in_words_1(layout: Layout, s: &[u8], in_blocks: bool, v: usize) -> bool
 
 // The same, for set 2.
 fn tied_in_words_2(layout: Layout, s: &[u8], in_blocks: bool, v: usize) -> bool
-    requires { ⌜
-        Fits (layoutIn layout) × (length (now s) ≡ heldBytes (layoutIn layout) «in_blocks») × (8 * v ≤ rowPlaneOf (layoutIn layout))
-        × (2 * v * layoutIn layout .rowCount ≤ 42) × (v ≤ 8)
-        ⌝ }
-    ensures { λ r. ⌜ r ≡ tied (64 * v) (layoutIn layout .rowCount) (tritAt (rowPlaneOf (layoutIn layout)) (rowsHeld (layoutIn layout) «in_blocks» (now (s .entry)))) ⌝ }
+    requires { ⌜ Loadable (layoutIn layout) «in_blocks» (now s) v 42 ⌝ }
+    ensures { λ r. ⌜ r ≡ tiedInColumns (layoutIn layout) v (rowsHeld (layoutIn layout) «in_blocks» (now (s .entry))) ⌝ }
 {
     let mut words = [0u64; WORDS_2];
     tied_in(layout, s, in_blocks, v, &mut words)
@@ -101,23 +87,17 @@ fn tied_in_words_2(layout: Layout, s: &[u8], in_blocks: bool, v: usize) -> bool
 
 // The same, for set 3.
 fn tied_in_words_3(layout: Layout, s: &[u8], in_blocks: bool, v: usize) -> bool
-    requires { ⌜
-        Fits (layoutIn layout) × (length (now s) ≡ heldBytes (layoutIn layout) «in_blocks») × (8 * v ≤ rowPlaneOf (layoutIn layout))
-        × (2 * v * layoutIn layout .rowCount ≤ 2592) × (v ≤ 8)
-        ⌝ }
-    ensures { λ r. ⌜ r ≡ tied (64 * v) (layoutIn layout .rowCount) (tritAt (rowPlaneOf (layoutIn layout)) (rowsHeld (layoutIn layout) «in_blocks» (now (s .entry)))) ⌝ }
+    requires { ⌜ Loadable (layoutIn layout) «in_blocks» (now s) v 2592 ⌝ }
+    ensures { λ r. ⌜ r ≡ tiedInColumns (layoutIn layout) v (rowsHeld (layoutIn layout) «in_blocks» (now (s .entry))) ⌝ }
 {
     let mut words = [0u64; WORDS_3];
     tied_in(layout, s, in_blocks, v, &mut words)
 }
 
 // The same, in the fewest words that are enough.
-fn tied_columns(layout: Layout, s: &[u8], in_blocks: bool, v: usize) -> bool
-    requires { ⌜
-        Fits (layoutIn layout) × (length (now s) ≡ heldBytes (layoutIn layout) «in_blocks») × (8 * v ≤ rowPlaneOf (layoutIn layout))
-        × (2 * v * layoutIn layout .rowCount ≤ 2592) × (v ≤ 8)
-        ⌝ }
-    ensures { λ r. ⌜ r ≡ tied (64 * v) (layoutIn layout .rowCount) (tritAt (rowPlaneOf (layoutIn layout)) (rowsHeld (layoutIn layout) «in_blocks» (now (s .entry)))) ⌝ }
+fn tied_in_columns(layout: Layout, s: &[u8], in_blocks: bool, v: usize) -> bool
+    requires { ⌜ Loadable (layoutIn layout) «in_blocks» (now s) v 2592 ⌝ }
+    ensures { λ r. ⌜ r ≡ tiedInColumns (layoutIn layout) v (rowsHeld (layoutIn layout) «in_blocks» (now (s .entry))) ⌝ }
 {
     let n = 2 * v * layout.row_count;
     if n <= WORDS_2 {
@@ -137,9 +117,9 @@ fn independent(layout: Layout, s: &[u8], in_blocks: bool) -> bool
 {
     let w = layout.row_bytes / 16;
     let v = least(w, 2 * (layout.row_count / 128 + 1));
-    if tied_columns(layout, s, in_blocks, v) {
+    if tied_in_columns(layout, s, in_blocks, v) {
         if v < w {
-            return !tied_columns(layout, s, in_blocks, w);
+            return !tied_in_columns(layout, s, in_blocks, w);
         }
         return false;
     }

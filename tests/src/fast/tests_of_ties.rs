@@ -3,7 +3,7 @@
 
 use super::matrix::matrix_check;
 use crate::matrices::{
-    file_of, fit, nonzero_digit, stated_matrix, stated_ties, tie_any, uniform, Rows,
+    change_digit, file_of, fit, stated_matrix, stated_ties, tie_any, uniform, Rows,
 };
 use crate::random::{report, seed, Random};
 use crate::reference::matrix;
@@ -22,9 +22,7 @@ fn tied_in_part(random: &mut Random, shape: Shape, column: usize, before: bool) 
     let mut rows = uniform(random, shape);
     let row = tie_any(random, &mut rows, 4);
     let changed = if before { 0..column } else { column..shape.bits };
-    for digit in &mut rows[row][changed] {
-        *digit = (*digit + nonzero_digit(random)) % 3;
-    }
+    rows[row][changed].iter_mut().for_each(|digit| change_digit(random, digit));
     rows
 }
 

@@ -4,9 +4,9 @@ use super::bits::part;
 use super::dealer::deal;
 use super::evaluator::evaluate;
 use super::matrix::{matrix_check, matrix_read, matrix_write, row_place};
-use super::numbers::TIED_ROWS;
+use super::numbers::{DONE, TIED_ROWS};
 use super::program::{pair_run, program, run_units, Inputs, SHARED};
-use super::shape::{Shape, SETS, SET_1, SET_2, SET_3};
+use super::shape::{Shape, SETS, SET_1};
 use super::unit::{begin, step, Stage};
 use crate::matrices::{diagonal, file_of, packed, stated_matrix, stated_ties};
 use crate::samples::{diagonal_file, seal};
@@ -19,9 +19,9 @@ fn inputs(shape: Shape, file: Vec<u8>) -> Inputs {
     Inputs { shape, key_halves, label_halves, tape, file }
 }
 
-/// The number of unit 0's step with its mask frame and this file, and whether the unit
-/// was left as it was.
-fn mask_step(shape: Shape, file: &[u8]) -> (u32, bool) {
+/// The number of unit 0's step with its mask frame and this file; a refused one leaves
+/// the unit as it was.
+fn mask_step(shape: Shape, file: &[u8]) -> u32 {
     let half = vec![0; shape.string_bytes()];
     let dealt = deal(shape, SHARED, &vec![0; shape.tape_bytes()], shape.dealt_bytes()).bytes;
     let mut frames = [0, 1].map(|side| part(&dealt, shape.deal_bytes() * side, shape.deal_bytes()));
@@ -33,7 +33,9 @@ fn mask_step(shape: Shape, file: &[u8]) -> (u32, bool) {
     }
     assert_eq!(units[0].stage, Stage::WaitsForMask);
     let last = step(&units[0], &frames[0], file, shape.step_room());
-    (last.number, last.next == units[0] && last.written.is_empty())
+    let left = last.next == units[0] && last.written.is_empty();
+    assert_eq!(left, last.number != DONE);
+    last.number
 }
 
 /// The numbers of all calls, in any set.
@@ -44,7 +46,7 @@ fn numbers(shape: Shape, rows: &[Vec<u8>]) -> [u32; 6] {
         matrix_read(shape, &file, shape.row_set_bytes()).number,
         matrix_write(shape, &packed(shape, rows), shape.file_bytes()).number,
         evaluate(shape, &string, &string, &file, shape.code_bytes()).number,
-        mask_step(shape, &file).0,
+        mask_step(shape, &file),
         run_units(&inputs(shape, file), SHARED).number,
     ]
 }
@@ -52,11 +54,10 @@ fn numbers(shape: Shape, rows: &[Vec<u8>]) -> [u32; 6] {
 #[test]
 fn stated_ties_give_12() {
     let ties = stated_ties();
-    assert!([SET_1, SET_2, SET_3].iter().all(|set| ties.iter().any(|(shape, ..)| shape == set)));
+    assert!(SETS.iter().all(|set| ties.iter().any(|(shape, ..)| shape == set)));
     for (shape, row, terms) in ties {
         let rows = stated_matrix(shape, row, &terms);
         assert_eq!(numbers(shape, &rows), [TIED_ROWS; 6], "row {row} is {terms:?}");
-        assert_eq!(mask_step(shape, &file_of(shape, &rows)), (TIED_ROWS, true));
         if shape == SET_1 {
             let input = inputs(shape, file_of(shape, &rows)).bytes();
             assert_eq!(pair_run(&input, shape.code_bytes()).number, TIED_ROWS);

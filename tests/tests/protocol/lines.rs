@@ -34,7 +34,7 @@ fn awaited(random: &mut Random, run: &Run, side: usize) -> Lent {
 }
 
 /// The frame of a step in another line.
-fn in_line(lent: &Lent, line: u8) -> Lent {
+pub fn in_line(lent: &Lent, line: u8) -> Lent {
     let mut other = lent.clone();
     other.frame[LINE_AT] = line;
     other

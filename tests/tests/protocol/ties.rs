@@ -2,10 +2,11 @@
 //! evaluator, step with a mask frame and `pair_run`.
 
 use crate::calls::{compare_evaluate, compare_run};
+use crate::lines::in_line;
 use crate::runs::join_shares;
 use crate::unit::{Lent, Run};
 use service_pair_tests::matrices::{
-    file_of, fit, nonzero_digit, stated_matrix, stated_ties, tie_any, uniform,
+    change_digit, file_of, fit, stated_matrix, stated_ties, tie_any, uniform,
 };
 use service_pair_tests::random::{report, seed, Random};
 use service_pair_tests::reference::frame::MASK;
@@ -37,7 +38,7 @@ fn fit_files(random: &mut Random, shape: Shape) -> Vec<Vec<u8>> {
     for column in [0, shape.bits - 1] {
         let mut rows = uniform(random, shape);
         let row = tie_any(random, &mut rows, 2);
-        rows[row][column] = (rows[row][column] + nonzero_digit(random)) % 3;
+        change_digit(random, &mut rows[row][column]);
         files.push(file_of(shape, &rows));
     }
     files
@@ -83,22 +84,19 @@ fn the_evaluator_refuses_tied_rows() {
 
 /// What a step with tied rows gives, and with a fault of each other sort beside them.
 fn faults(random: &mut Random, shape: Shape, lent: &Lent) -> Vec<(Lent, u32)> {
-    let mut faults = Vec::new();
-    let with = |place: usize, bit: u8| {
-        let mut frame = lent.frame.clone();
-        frame[place] ^= bit;
-        Lent { frame, ..lent.clone() }
-    };
-    faults.push((lent.clone(), TIED_ROWS));
-    // The line alone comes after it.
-    faults.push((with(LINE_AT, 1), TIED_ROWS));
-    faults.push((with(SESSION_AT, 1), OTHER_SESSION));
-    let frame = [&lent.frame[..], &[0]].concat();
-    faults.push((Lent { frame, ..lent.clone() }, FRAME_LENGTH));
-    faults.push((Lent { room: shape.step_room() - 1, ..lent.clone() }, WRONG_LENGTH));
+    let mut other_session = lent.clone();
+    other_session.frame[SESSION_AT] ^= 1;
+    let longer = [&lent.frame[..], &[0]].concat();
     let unfit = with_unfit_trit(random, shape, &lent.file);
-    faults.push((Lent { file: unfit, ..lent.clone() }, UNFIT_TRIT));
-    faults
+    vec![
+        (lent.clone(), TIED_ROWS),
+        // The line alone comes after it.
+        (in_line(lent, lent.frame[LINE_AT] ^ 1), TIED_ROWS),
+        (other_session, OTHER_SESSION),
+        (Lent { frame: longer, ..lent.clone() }, FRAME_LENGTH),
+        (Lent { room: shape.step_room() - 1, ..lent.clone() }, WRONG_LENGTH),
+        (Lent { file: unfit, ..lent.clone() }, UNFIT_TRIT),
+    ]
 }
 
 /// A mask frame with tied rows is refused and leaves the unit, which goes on with a fit
@@ -130,7 +128,7 @@ fn steps_with_tied_rows() {
                         count += 1;
                     }
                 }
-                let other = Lent { frame: in_other_line(&lent.frame), ..lent.clone() };
+                let other = in_line(&lent, lent.frame[LINE_AT] ^ 1);
                 assert_eq!(run.step(&mut random, side, &other).number, OTHER_LINE);
                 assert_eq!(run.step(&mut random, side, &lent).number, DONE, "SEED={}", seed());
                 count += 2;
@@ -141,19 +139,13 @@ fn steps_with_tied_rows() {
     report("protocol: tied rows at steps", count);
 }
 
-fn in_other_line(frame: &[u8]) -> Vec<u8> {
-    let mut other = frame.to_vec();
-    other[LINE_AT] ^= 1;
-    other
-}
-
 #[test]
 fn whole_runs_with_tied_rows() {
     let mut random = Random::for_test("ties of pair_run");
     let (mut count, room) = (0, SET_1.code_bytes());
     let tied = tied_files(&mut random, SET_1).into_iter().map(|file| (file, TIED_ROWS));
     let fit = fit_files(&mut random, SET_1).into_iter().map(|file| (file, DONE));
-    for (file, number) in tied.collect::<Vec<_>>().into_iter().chain(fit) {
+    for (file, number) in tied.chain(fit) {
         let mut inputs = fit_inputs(&mut random, SET_1);
         inputs.file = file;
         assert_eq!(compare_run(&mut random, &inputs.bytes(), room), number, "SEED={}", seed());

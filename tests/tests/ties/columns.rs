@@ -2,15 +2,12 @@
 //! last ones or of the first ones alone.
 
 use crate::judged;
-use service_pair_tests::matrices::{nonzero_digit, shuffled, tie, tie_any, uniform, Rows};
+use service_pair_tests::matrices::{
+    change_digit, nonzero_digit, shuffled, tie_any, tie_to, uniform, Rows,
+};
 use service_pair_tests::random::{report, seed, Random};
 use service_pair_tests::reference::elimination::tied;
 use service_pair_tests::reference::shape::{Shape, SETS};
-
-/// Turns a digit into one of the other two.
-fn change_digit(random: &mut Random, row: &mut [u8], column: usize) {
-    row[column] = (row[column] + nonzero_digit(random)) % 3;
-}
 
 /// Every column in turn is the only one in which the rows of a tie differ from it: a
 /// column that is not looked at gives 12.
@@ -28,7 +25,7 @@ fn ties_but_for_one_column() {
                 assert_eq!(judged(&mut random, shape, &rows), 12, "SEED={}", seed());
                 count += 1;
             }
-            change_digit(&mut random, &mut rows[row], column);
+            change_digit(&mut random, &mut rows[row][column]);
             assert_eq!(judged(&mut random, shape, &rows), 0, "column {column}, SEED={}", seed());
             count += 1;
         }
@@ -39,7 +36,7 @@ fn ties_but_for_one_column() {
 /// Where words end, and some places between.
 fn borders(random: &mut Random, shape: Shape) -> Vec<usize> {
     let words = (0..shape.bits / 64).flat_map(|word| [64 * word, 64 * word + 1, 64 * word + 63]);
-    let near = [shape.digits - 1, shape.digits, shape.digits + 1, shape.bits - 1];
+    let near = [shape.digits - 1, shape.digits, shape.digits + 1];
     let any = [0; 4].map(|_| 1 + random.below(shape.bits - 1));
     let all = words.chain(near).chain(any);
     all.filter(|column| *column > 0).collect()
@@ -99,7 +96,7 @@ fn ties_in_all_columns_beside_ties_in_some() {
             if border + 40 < shape.bits {
                 assert_eq!(number, 0, "at {border}, SEED={}", seed());
             }
-            tie(&mut rows, order[7], &[(order[6], nonzero_digit(&mut random))]);
+            tie_to(&mut random, &mut rows, order[7], &order[6..7]);
             assert_eq!(judged(&mut random, shape, &rows), 12, "at {border}, SEED={}", seed());
             count += 2;
         }

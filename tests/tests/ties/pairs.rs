@@ -21,8 +21,8 @@ fn with_row(shape: Shape, fit: &[u8], i: usize, row: &[u8]) -> Vec<u8> {
     file
 }
 
-/// The check, and the reader or the writer, refuse this file and its rows with 12. The rows were made
-/// tied, so the reference need not find out.
+/// The check, and the reader or the writer, refuse this file and its rows with 12. The
+/// rows were made tied, so the reference need not find out.
 fn refused(random: &mut Random, shape: Shape, file: &[u8]) {
     let (set, expected) = (shape.set, Answer::refused(TIED_ROWS));
     compare(random, "pair_matrix_check", [file], 0, &expected, |[file], _| {

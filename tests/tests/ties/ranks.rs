@@ -2,19 +2,10 @@
 //! few rows and many, among the last ones, and of rows that hardly have a digit.
 
 use crate::judged;
-use service_pair_tests::matrices::{fit, nonzero_digit, shuffled, tie, uniform, Rows, Terms};
+use service_pair_tests::matrices::{fit, nonzero_digit, shuffled, tie, tie_to, uniform, Rows};
 use service_pair_tests::random::{report, seed, Random};
 use service_pair_tests::reference::elimination::rank;
 use service_pair_tests::reference::shape::{Shape, SETS};
-
-/// 0 of rows that are not tied, and else 12.
-fn number_of(missing: usize) -> u32 {
-    if missing == 0 {
-        0
-    } else {
-        12
-    }
-}
 
 /// Makes so many rows of a fit matrix sums of some or all of the others.
 fn with_missing(random: &mut Random, rows: &mut Rows, missing: usize) {
@@ -22,12 +13,8 @@ fn with_missing(random: &mut Random, rows: &mut Rows, missing: usize) {
     let (tied, others) = order.split_at(missing);
     for row in tied {
         let most = random.choose(&[2, 5, others.len()]);
-        let terms: Terms = others
-            .iter()
-            .take(1 + random.below(most))
-            .map(|i| (*i, nonzero_digit(random)))
-            .collect();
-        tie(rows, *row, &terms);
+        let count = 1 + random.below(most);
+        tie_to(random, rows, *row, &others[..count]);
     }
 }
 
@@ -55,7 +42,8 @@ fn ranks_of_all_rows_and_of_one_or_two_less() {
             }
             assert_eq!(rank(rows.clone()), shape.digits - missing, "SEED={}", seed());
             let number = judged(&mut random, shape, &rows);
-            assert_eq!(number, number_of(missing), "{missing} less, SEED={}", seed());
+            let expected = if missing == 0 { 0 } else { 12 };
+            assert_eq!(number, expected, "{missing} less, SEED={}", seed());
         }
     }
     report("ties: matrices of three ranks", SETS.len() * count);
@@ -71,9 +59,8 @@ fn ties_among_the_last_rows() {
         for tied in 1..8 {
             for row in [last, last - tied / 2, last - tied] {
                 let mut rows = uniform(&mut random, shape);
-                let others = (last - tied..=last).filter(|i| *i != row);
-                let terms: Terms = others.map(|i| (i, nonzero_digit(&mut random))).collect();
-                tie(&mut rows, row, &terms);
+                let others: Vec<usize> = (last - tied..=last).filter(|i| *i != row).collect();
+                tie_to(&mut random, &mut rows, row, &others);
                 assert_eq!(judged(&mut random, shape, &rows), 12, "SEED={}", seed());
                 count += 1;
             }
@@ -82,7 +69,8 @@ fn ties_among_the_last_rows() {
     report("ties: among the last rows", count);
 }
 
-/// Every row in turn is a sum of all others, of those before it, or of those after.
+/// Every row in turn is a sum of all others, of those before it, or of those after it.
+/// The turns count from the last row, which has none after it: no sum is empty.
 #[test]
 fn every_row_tied_to_many() {
     let mut random = Random::for_test("many rows");
@@ -90,14 +78,13 @@ fn every_row_tied_to_many() {
     for shape in SETS {
         let fit = uniform(&mut random, shape);
         for row in 0..shape.digits {
-            let others: Vec<usize> = match row % 3 {
+            let others: Vec<usize> = match (shape.digits - 1 - row) % 3 {
                 0 => (0..shape.digits).filter(|i| *i != row).collect(),
                 1 => (0..row).collect(),
                 _ => (row + 1..shape.digits).collect(),
             };
-            let terms: Terms = others.iter().map(|i| (*i, nonzero_digit(&mut random))).collect();
             let mut rows = fit.clone();
-            tie(&mut rows, row, &terms);
+            tie_to(&mut random, &mut rows, row, &others);
             assert_eq!(judged(&mut random, shape, &rows), 12, "row {row}, SEED={}", seed());
             count += 1;
         }

@@ -1,7 +1,7 @@
 //! The examples of the request, and an unfit trit beside a tie.
 
+use crate::judged;
 use crate::matrix_calls::{compare_fully, compare_rows};
-use crate::{interface, judged};
 use service_pair_tests::matrices::{
     diagonal, file_of, fit, packed, shuffled, stated_matrix, stated_ties, tie_any,
 };
@@ -17,7 +17,6 @@ fn stated_ties_are_refused() {
     for (shape, row, terms) in &ties {
         let rows = stated_matrix(*shape, *row, terms);
         assert_eq!(judged(&mut random, *shape, &rows), 12, "row {row} is {terms:?}");
-        assert_eq!(interface::matrix_check(shape.set, &file_of(*shape, &rows)), 12);
     }
     report("ties: stated ones", ties.len());
 }
@@ -28,7 +27,6 @@ fn diagonals_are_fit() {
     let mut random = Random::for_test("diagonals");
     for shape in SETS {
         let ones = diagonal(shape);
-        assert_eq!(interface::matrix_check(shape.set, &file_of(shape, &ones)), 0);
         let twos: Vec<Vec<u8>> =
             ones.iter().map(|row| row.iter().map(|digit| 2 * digit).collect()).collect();
         let columns = shuffled(&mut random, shape.bits);
@@ -36,7 +34,7 @@ fn diagonals_are_fit() {
             ones.iter().map(|row| columns.iter().map(|column| row[*column]).collect()).collect();
         let from_below = ones.iter().rev().cloned().collect();
         let from_right = ones.iter().map(|row| row.iter().rev().copied().collect()).collect();
-        for rows in [ones.clone(), twos, moved, from_below, from_right] {
+        for rows in [ones, twos, moved, from_below, from_right] {
             assert_eq!(judged(&mut random, shape, &rows), 0, "SEED={}", seed());
         }
     }

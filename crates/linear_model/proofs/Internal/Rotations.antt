@@ -15,7 +15,7 @@ use Rattle.linear_model.specs.Products.{bitTerm, bitRow, bitProduct, cir
 use Rattle.linear_model.specs.Internal.Rotations.{Bits, Words, Overwritten, wordOf, closed, rotatedAt, addedAt, maskAt, Masks, maskTerm, added, Added, addedRow, addedRows, AddedRows, keyTerm, keyRow, stepped, Stepped, around, Rows, Factors, hornerTerm, hornerColumn, horner}
 use Rattle.linear_model.proofs.Tables.{every-at, same₁}
 use Rattle.linear_model.proofs.NumberBits.{from-bits-none, from-bits-ext, from-bits-lt, from-bits-of, bit-at-from-bits, bit-at-xor, bit-at-and}
-use Rattle.linear_model.proofs.Sums.{sum-more, sum-split, sum-ext, sum-zero}
+use Rattle.linear_model.proofs.Sums.{sum-more, sum-split, sum-ext, sum-plus, sum-zero}
 use Rattle.linear_model.proofs.Strings.{bit-lt, pack-ext, getD-zeros}
 use Rattle.linear_model.proofs.WordBits.{window-is}
 use Rattle.linear_model.proofs.Internal.Circulant.{around-once}
@@ -54,16 +54,12 @@ sum-grid : (n m : ℕ) (f : ℕ → ℕ) → sum n (λ r. sum m (λ w. f (n * w 
 unfolding sum
 sum-grid n zero f = sum-zero n (λ r. 0) (λ _ _. refl) ∙ ap (λ (k : ℕ). sum k f) (sym (mul-zero n))
 sum-grid n (suc m) f =
-    both n (λ r. sum m (λ w. f (n * w + r))) (λ r. f (n * m + r))
+    sum-plus n (λ r. sum m (λ w. f (n * w + r))) (λ r. f (n * m + r))
     ∙ ap (λ (s : ℕ). s + sum n (from (n * m) f)) (sum-grid n m f)
     ∙ sym (sum-split (n * m) n f) ∙ ap (λ (k : ℕ). sum k f) next
   where
     next : n * m + n ≡ n * suc m
     next = omega arith
-
-    both : (n : ℕ) (f g : ℕ → ℕ) → sum n (λ r. f r + g r) ≡ sum n f + sum n g
-    both zero f g = refl
-    both (suc n) f g = omega (arith, both n f g)
 
 -- ---- masks
 

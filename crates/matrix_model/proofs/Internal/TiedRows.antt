@@ -5,6 +5,7 @@ use mathlib.Core.Bool.{Bool, true, false, cond, not}
 use Prim.Native.Nat.{ℕ, _+_, _-_, _*_, _/_, _%_, _<_, _≤_}
 use native.Mathlib.Nat.{mul-le-mul-right}
 use native.Mathlib.Omega.{arith}
+use borrow.Author.Tests.{not-false}
 use lib.Dec.{T, leb, lit≤}
 use lib.ListN.{drop}
 use Rattle.linear_model.specs.Trits.{trit, zeroTrits}
@@ -18,21 +19,17 @@ use Rattle.numbers.specs.Number.{first}
 use Rattle.numbers.proofs.Numbers.{holds, is-false}
 use Rattle.matrix_model.specs.Block.{Layout}
 use Rattle.matrix_model.specs.File.{Fits, rowPlaneOf, badTritOf, tiedRowsOf, rowFaultsOf, layoutOf}
-use Rattle.matrix_model.specs.Internal.Rows.{nonzeroRow, zeroRowOf, rowsNumber, Eliminable}
+use Rattle.matrix_model.specs.Internal.Rows.{nonzeroRow, zeroRowOf, rowsNumber, Eliminable, tiedInColumns}
 use Rattle.matrix_model.proofs.Internal.Rows.{trit-take}
 use Rattle.matrix_model.proofs.Internal.RowNumbers.{Among, same-row}
 
 -- rows with a zero row among them are tied
-pub zero-rows-tied : (layout : Layout) (rows : List ℕ) → zeroRowOf layout rows ≡ true → tiedRowsOf layout rows ≡ true
+zero-rows-tied : (layout : Layout) (rows : List ℕ) → zeroRowOf layout rows ≡ true → tiedRowsOf layout rows ≡ true
 unfolding zeroRowOf tiedRowsOf
 zero-rows-tied layout rows e =
     let m = rowPlaneOf layout in
     let f = fails-somewhere (layout .rowCount) (nonzeroRow layout rows) (holds _ e) in
-    zero-row-tied m (layout .rowCount) rows (f .0) (f .1) (twice (zeroTrits m 0 (rowsFrom m rows (f .0))) (is-false _ (f .2)))
-  where
-    twice : (b : Bool) → not b ≡ false → b ≡ true
-    twice true p = refl
-    twice false p = sym p
+    zero-row-tied m (layout .rowCount) rows (f .0) (f .1) (not-false (zeroTrits m 0 (rowsFrom m rows (f .0))) (is-false _ (f .2)))
 
 -- the number by two tests: of trits, and of a zero row or of tied rows
 abbrev numberBy : Bool → Bool → ℕ
@@ -93,15 +90,14 @@ loaded-more {layout} fits {set} {part} {i} {k} a v h {words₀} {words} {words'}
 
 -- the words of a plane have all columns
 module _ (layout : Layout) (rows : List ℕ) (h : Eliminable layout) where
-  pub all-columns : tied (64 * (layout .rowBytes / 16)) (layout .rowCount) (tritAt (rowPlaneOf layout) rows) ≡ tiedRowsOf layout rows
+  pub all-columns : tiedInColumns layout (layout .rowBytes / 16) rows ≡ tiedRowsOf layout rows
   unfolding tiedRowsOf
   all-columns =
       let e : 64 * (layout .rowBytes / 16) ≡ 8 * rowPlaneOf layout = omega (arith, h .whole-words) in
       ap (λ (n : ℕ). tied n (layout .rowCount) (tritAt (rowPlaneOf layout) rows)) e
 
   -- rows that are not tied in the first v words are not tied
-  pub first-columns : (v : ℕ) → v ≤ layout .rowBytes / 16 → tied (64 * v) (layout .rowCount) (tritAt (rowPlaneOf layout) rows) ≡ false
-      → tiedRowsOf layout rows ≡ false
+  pub first-columns : (v : ℕ) → v ≤ layout .rowBytes / 16 → tiedInColumns layout v rows ≡ false → tiedRowsOf layout rows ≡ false
   unfolding tiedRowsOf
   first-columns v l e = untied-wider (64 * v) (8 * rowPlaneOf layout) (layout .rowCount) (tritAt (rowPlaneOf layout) rows) (omega arith) e
 

@@ -3,13 +3,14 @@ use Prim.Native.Nat.{ℕ, _+_, _*_, _/_, _%_, _≤_}
 use mathlib.Core.Path.{_≡_}
 use mathlib.Core.List.{List, [], _∷_}
 use mathlib.Core.Bool.{Bool, cond, not}
-use lib.ListN.{take, drop}
+use lib.ListN.{take, drop, length}
 use Rattle.linear_model.specs.Tables.{every}
 use Rattle.linear_model.specs.Trits.{zeroTrits}
 use Rattle.linear_model.specs.Products.{rowsFrom}
+use Rattle.elimination_model.specs.Independence.{tied, tritAt}
 use Rattle.numbers.specs.Number.{_when_, first}
 use Rattle.matrix_model.specs.Block.{Layout, blockBytes, headBytes, rowsIn}
-use Rattle.matrix_model.specs.File.{fileSize, rowsSize, rowPlaneOf, rowsOf, fitRow}
+use Rattle.matrix_model.specs.File.{Fits, fileSize, rowsSize, rowPlaneOf, rowsOf, fitRow}
 
 -- row i is not all zero
 abbrev pub nonzeroRow : Layout → List ℕ → ℕ → Bool
@@ -37,6 +38,15 @@ rowsHeld layout inBlocks s = cond inBlocks (rowsOf layout s) s
 -- and how many bytes they are held in
 abbrev pub heldBytes : Layout → Bool → ℕ
 heldBytes layout inBlocks = cond inBlocks (fileSize layout) (rowsSize layout)
+
+-- bytes hold rows, and there is room for the first v words of each plane, at most eight
+abbrev pub Loadable : Layout → Bool → List ℕ → ℕ → ℕ → Type 0
+Loadable layout inBlocks s v room =
+    Fits layout × (length s ≡ heldBytes layout inBlocks) × (8 * v ≤ rowPlaneOf layout) × (2 * v * layout .rowCount ≤ room) × (v ≤ 8)
+
+-- the rows are tied in the columns of the first v words of each plane
+abbrev pub tiedInColumns : Layout → ℕ → List ℕ → Bool
+tiedInColumns layout v rows = tied (64 * v) (layout .rowCount) (tritAt (rowPlaneOf layout) rows)
 
 -- the rows of block b, in a file and among rows one after the other
 abbrev pub rowsInFile : Layout → List ℕ → ℕ → List ℕ

@@ -6,18 +6,19 @@ use mathlib.Core.List.{List, [], _∷_}
 use mathlib.Core.Bool.{Bool, true, false, cond, false≢true}
 use native.Mathlib.Omega.{arith}
 use native.Mathlib.Nat.{le-refl}
-use borrow.Author.Tests.{eq-eqb, ne-eqb}
+use borrow.Author.Tests.{eq-eqb}
 use lib.Dec.{T, ltb, eqb, ltb→lt, lit<, lit≤}
 use lib.ListN.{getD, drop}
 use Rattle.linear_model.specs.Bits.{Bytes, zeros, fromBits, bit, pack}
 use Rattle.linear_model.specs.Tables.{tabulate, every, below}
 use Rattle.linear_model.specs.Trits.{trit, packTrits, bitTrits, fitTrits}
 use Rattle.linear_model.specs.Products.{tritTerm, rowDigit, matrixProduct}
+use Rattle.linear_model.proofs.Tables.{one-there, one-elsewhere}
 use Rattle.linear_model.proofs.Strings.{bytes-zeros, bit-lt, add-zeros}
 use Rattle.linear_model.proofs.Sums.{sum-one}
 use Rattle.linear_model.proofs.Vectors.{packTrits-ext, trit-bits}
 use Rattle.matrix_model.specs.File.{matrixB, checkNumber}
-use Rattle.matrix_model.specs.Sample.{oneAt, diagonalRows, sampleFile}
+use Rattle.matrix_model.specs.Sample.{diagonalRows, sampleFile}
 use Rattle.matrix_model.proofs.Sample.{trit-is, sample-survives}
 use Rattle.numbers.specs.Number.{first}
 use Rattle.pair_model.specs.Scheme.{Side, side0, side1, other, files, readingNumber, field}
@@ -126,16 +127,13 @@ v = bitTrits 32 label
 digit : (i : ℕ) → i < 81 → rowDigit 32 (diagonalRows matrixB) v i ≡ bit label i
 digit i l =
     ap (λ (s : ℕ). s % 3)
-    (sum-one 256 (tritTerm 32 row v) i (omega arith) (λ j m n. ap (λ (t : ℕ). t * trit 32 v j) (trit-is i l j m ∙ elsewhere j n) ∙ omega arith))
-    ∙ ap (λ (t : ℕ). t * trit 32 v i % 3) (trit-is i l i (omega arith) ∙ ap (λ (b : Bool). cond b 1 0) (eq-eqb i i refl))
+    (sum-one 256 (tritTerm 32 row v) i (omega arith) (λ j m n. ap (λ (t : ℕ). t * trit 32 v j) (trit-is i l j m ∙ one-elsewhere i j n) ∙ omega arith))
+    ∙ ap (λ (t : ℕ). t * trit 32 v i % 3) (trit-is i l i (omega arith) ∙ one-there i)
     ∙ ap (λ (t : ℕ). 1 * t % 3) (trit-bits 32 label i (omega arith))
     ∙ omega (arith, bit-lt label i)
   where
     row : List ℕ
     row = drop (64 * i) (diagonalRows matrixB)
-
-    elsewhere : (j : ℕ) → j ≢ i → oneAt i j ≡ 0
-    elsewhere j n = ap (λ (b : Bool). cond b 1 0) (ne-eqb i j (λ e. n (sym e)))
 
 inner : base .product sampleFile (1 ∷ zeros 31) label ≡ label
 inner = keeps (1 ∷ zeros 31) 0 bit0 refl label (one-byte 5 (lit< tt))

@@ -10,8 +10,8 @@ use service_pair_tests::reference::shape::Shape;
 use std::hint::black_box;
 
 /// Adds the rows of a set: of this fit file, and of one whose last row is the first
-/// one in the columns that both sides look at first, where these are not all: the tie
-/// there is found last, and then all columns are looked at.
+/// one in all columns that either side looks at first, where these are not all: the
+/// tie there is found last, and then all columns are looked at.
 pub fn rows(random: &mut Random, shape: Shape, file: &'static [u8], table: &mut Table) {
     check(shape, file, "pair_matrix_check", table);
     let columns = 128 * (shape.digits / 128 + 1);

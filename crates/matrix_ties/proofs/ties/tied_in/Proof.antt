@@ -6,7 +6,7 @@ use Rattle.matrix_ties.proofs.ties.tied_in.Statement.{statement}
 use Rattle.matrix_ties.proofs.ties.tied_in.Tie as tie
 
 load-requires : tie.Need-load-requires
-load-requires c κs = let p = c .before .before .before .pre in (p .0, p .1, p .2, p .3)
+load-requires c κs = c .before .before .before .pre
 
 first-tied-requires : tie.Need-first-tied-requires
 first-tied-requires c κs =
