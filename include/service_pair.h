@@ -39,9 +39,9 @@
  * STACK. What each call uses at most in any set, arguments and return address included, in KiB, rounded up:
  *
  *     pair_matrix_check  21.5     pair_evaluate     21.9     pair_begin             0.1
- *     pair_matrix_read   21.6     pair_sample        0.7     pair_step, with deal   0.4
+ *     pair_matrix_read   21.7     pair_sample        0.7     pair_step, with deal   0.4
  *     pair_matrix_write  22.3     pair_deal          2.8     .. with open           3.1
- *     pair_join           0.3     pair_deal_source   3.4     .. with mask          21.7
+ *     pair_join           0.3     pair_deal_source   3.4     .. with mask          21.8
  *                                                            pair_run              25.3
  *
  * What judges a matrix has room for all rows of set 3, whichever set is named. A program that looks for memcpy and

@@ -238,7 +238,7 @@ static struct call {
 } calls[] = {
     {"pair_matrix_check", matrix_check, 215, NULL, 0},
     {"pair_matrix_write", matrix_write, 223, NULL, 0},
-    {"pair_matrix_read", matrix_read, 216, NULL, 0},
+    {"pair_matrix_read", matrix_read, 217, NULL, 0},
     {"pair_evaluate", evaluate, 219, NULL, 0},
     {"pair_sample", sample, 7, NULL, 0},
     {"pair_sample, start 1", sample_inside, 7, NULL, 0},
@@ -248,7 +248,7 @@ static struct call {
     {"pair_begin", begin, 1, NULL, 0},
     {"pair_step, deal", step_deal, 4, states[0], 0},
     {"pair_step, open", step_open, 31, states[1], 0},
-    {"pair_step, mask", step_mask, 217, states[2], 0},
+    {"pair_step, mask", step_mask, 218, states[2], 0},
     {"pair_join", join, 3, NULL, 0},
     {"pair_run", whole_run, 253, NULL, 0},
 };

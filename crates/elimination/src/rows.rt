@@ -59,7 +59,7 @@ fn load_row(rows: &[u8], bytes: usize, i: usize, words: &mut [u64], b: usize, v:
 }
 
 // Loads the first `v` words of each plane of `n` rows, one after the other, to row `first` and the rows after it.
-pub fn load_rows(rows: &[u8], bytes: usize, n: usize, words: &mut [u64], v: usize, first: usize)
+fn load_rows(rows: &[u8], bytes: usize, n: usize, words: &mut [u64], v: usize, first: usize)
     requires { ⌜ (8 * v ≤ bytes) × (2 * bytes * n ≤ length (now rows)) × (2 * v * (first + n) ≤ length (now words)) × (first + n < 2 ^ 64) ⌝ }
     ensures { λ _. ⌜ RowsWritten v first (first + n) (LoadedFrom bytes (now (rows .entry)) first) (now (words .entry)) (now (words .exit)) ⌝ }
 {
@@ -68,4 +68,28 @@ pub fn load_rows(rows: &[u8], bytes: usize, n: usize, words: &mut [u64], v: usiz
         load_row(rows, bytes, i, words, 2 * v * (first + i), v);
         i += 1;
     }
+}
+
+// The same, with the sizes that are looked at first written out.
+pub fn load_rows_by_size(
+    rows: &[u8],
+    bytes: usize,
+    n: usize,
+    words: &mut [u64],
+    v: usize,
+    first: usize,
+)
+    requires { ⌜ (8 * v ≤ bytes) × (2 * bytes * n ≤ length (now rows)) × (2 * v * (first + n) ≤ length (now words)) × (first + n < 2 ^ 64) ⌝ }
+    ensures { λ _. ⌜ RowsWritten v first (first + n) (LoadedFrom bytes (now (rows .entry)) first) (now (words .entry)) (now (words .exit)) ⌝ }
+{
+    if v == 1 {
+        return load_rows(rows, bytes, n, words, 1, first);
+    }
+    if v == 2 {
+        return load_rows(rows, bytes, n, words, 2, first);
+    }
+    if v == 4 {
+        return load_rows(rows, bytes, n, words, 4, first);
+    }
+    load_rows(rows, bytes, n, words, v, first);
 }

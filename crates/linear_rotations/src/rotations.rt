@@ -70,13 +70,6 @@ fn rotate(acc: &mut [u64; 9], w: usize, n: usize)
     }
 }
 
-// The lowest bit of a word, in all places.
-fn mask(x: u64) -> u64
-    ensures { λ r. ⌜ r ≡ x % 2 * 0xffffffffffffffff ⌝ }
-{
-    (x % 2) * 0xffff_ffff_ffff_ffff
-}
-
 // The masks of bits `q` of the key's words, stored from place `o` on.
 fn masks(key: &[u64; 8], to: &mut [u64; 32], o: usize, q: usize, w: usize)
     requires { ⌜ (o ≤ 24) × (q < 64) × (w ≤ 8) × (length (now to) ≡ 32) ⌝ }
@@ -84,7 +77,7 @@ fn masks(key: &[u64; 8], to: &mut [u64; 32], o: usize, q: usize, w: usize)
 {
     let mut a: usize = 0;
     while a < w {
-        to[o + a] = mask(key[a] >> q);
+        to[o + a] = words::mask(key[a] >> q);
         a += 1;
     }
 }

@@ -38,6 +38,13 @@ fn last_word(s: &[u8], i: usize) -> u64
     acc
 }
 
+// The lowest bit of a word, in all places.
+pub fn mask(x: u64) -> u64
+    ensures { λ r. ⌜ r ≡ x % 2 * 0xffffffffffffffff ⌝ }
+{
+    (x % 2) * 0xffff_ffff_ffff_ffff
+}
+
 // The byte of `x` from bit `k` on.
 pub fn byte_of(x: u64, k: usize) -> u8
     requires { ⌜ k < 64 ⌝ }

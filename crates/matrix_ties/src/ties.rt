@@ -9,7 +9,7 @@ ghost use Rattle.matrix_model.specs.File.{Fits, rowPlaneOf, tiedRowsOf, rowFaul
 ghost use Rattle.matrix_model.specs.Internal.Rows.{rowsHeld, heldBytes, Eliminable, Loadable, tiedInColumns};
 ghost use Rattle.matrix_blocks.specs.Layouts.{layoutIn};
 use elimination::elimination::first_tied;
-use elimination::rows::load_rows;
+use elimination::rows::load_rows_by_size;
 use linear_words::bytes::least;
 use matrix_blocks::counts::block_count;
 use matrix_blocks::counts::rows_in;
@@ -45,7 +45,7 @@ fn load(layout: Layout, s: &[u8], in_blocks: bool, v: usize, words: &mut [u64])
     let mut b: usize = 0;
     while b < blocks {
         let rows = rows_at(layout, s, in_blocks, b);
-        load_rows(
+        load_rows_by_size(
             rows,
             bytes,
             rows_in(layout, b),

@@ -1,16 +1,23 @@
 -- Laws of the table of a row's multiples: zero, the row and its negative.
-use mathlib.Core.Path.{_≡_, ap, ap₂, _∙_}
+use mathlib.Core.Path.{_≡_, sym, ap, ap₂, _∙_}
 use mathlib.Core.List.{List}
 use mathlib.Core.Logic.{_⊎_, inl, inr}
-use Prim.Native.Nat.{ℕ, zero, suc, _+_, _-_, _*_, _%_, _<_, _≤_}
-use native.Mathlib.Nat.{mod-lt, zero-lt-suc}
+use Prim.Native.Nat.{ℕ, zero, suc, _+_, _-_, _*_, _%_, _^_, _<_, _≤_}
+use native.Mathlib.Nat.{mod-lt, mod-mod, zero-lt-suc, mul-assoc, mul-comm, one-mul, div-eq-of-lt, lt-of-lt-of-le, pow-le-pow-right}
+use native.Mathlib.Decide.{decLt}
 use native.Mathlib.Omega.{arith}
+use lib.Dec.{lit<}
 use lib.ListN.{getD}
-use Rattle.linear_model.specs.Bits.{zeros}
+use Rattle.linear_model.specs.Bits.{bitAt, zeros}
+use Rattle.linear_model.specs.Digits.{digitProduct}
 use Rattle.linear_model.specs.Internal.Planes.{tritOf}
 use Rattle.linear_model.proofs.Strings.{length-zeros, getD-zeros}
+use Rattle.linear_model.proofs.Sums.{mul-congr}
 use Rattle.linear_model.proofs.NumberBits.{bit-at-zero, bit-at-lt}
-use Rattle.elimination_model.specs.Internal.Words.{wordTrit, FitRow, RowWritten, CopiedWord, Multiples, Table}
+use Rattle.linear_model.proofs.Digits.{remainder-product}
+use Rattle.linear_model.proofs.Internal.Rotations.{mask-bit-at}
+use Rattle.elimination_model.specs.Internal.Words.{wordTrit, FitRow, RowWritten, CopiedWord, Multiples, Entries, Table}
+use Rattle.elimination_model.proofs.Residues.{times-zero}
 use Rattle.elimination_model.proofs.Internal.Writing.{rows-apart}
 
 -- a trit with its planes in the other order is twice itself
@@ -79,14 +86,31 @@ module _ (w : ℕ) (words : List ℕ) (a : ℕ) (f : FitRow w words a) where
       is (suc (suc (suc d))) m h q k = absurd (omega arith)
   multiples-filled (suc (suc (suc p))) g l t₀ t₁ t₂ z r s = absurd (omega arith)
 
--- each entry is fit, and entry 0 is the zero row
-pub entry-fit : (w : ℕ) (words : List ℕ) (a p : ℕ) (table : List ℕ) → Multiples w words a p table → (d : ℕ) → d < 3 → FitRow w table (2 * w * d)
-entry-fit w words a p table x d l =
+-- entry d is entry 1, d times
+pub multiples-entries : (w : ℕ) (words : List ℕ) (a p : ℕ) (table : List ℕ) → Multiples w words a p table → Entries w table
+multiples-entries w words a p table x =
+    record {
+      long = x .long;
+      is = λ d m l q k. x .is d m l q k ∙ times d (wordTrit w words a m k) ∙ ap (λ (v : ℕ). d * v % 3) (sym (x .is 1 m (lit< tt) q k));
+    }
+  where
+    order : (d : ℕ) → 2 * (d * p) ≡ d * (2 * (1 * p))
+    order d = sym (mul-assoc 2 d p) ∙ ap (λ (v : ℕ). v * p) (mul-comm 2 d) ∙ mul-assoc d 2 p ∙ ap (λ (v : ℕ). d * (2 * v)) (sym (one-mul p))
+
+    times : (d y : ℕ) → 2 * (d * p) * y % 3 ≡ d * (2 * (1 * p) * y % 3) % 3
+    times d y =
+        ap (λ (v : ℕ). v % 3) (ap (λ (v : ℕ). v * y) (order d) ∙ mul-assoc d (2 * (1 * p)) y)
+        ∙ sym (mul-congr 3 d (2 * (1 * p) * y % 3) (2 * (1 * p) * y) (mod-mod (2 * (1 * p) * y) 3))
+
+-- so each is fit
+pub entry-fit : (w : ℕ) (table : List ℕ) → Entries w table → (d : ℕ) → d < 3 → FitRow w table (2 * w * d)
+entry-fit w table x d l =
     record {
       long = omega (arith, x .long, rows-apart w d 3 l);
-      fit = λ m q k. rw (x .is d m l q k) (mod-lt (2 * (d * p) * wordTrit w words a m k) (zero-lt-suc 2));
+      fit = λ m q k. rw (x .is d m l q k) (mod-lt (d * wordTrit w table (2 * w * 1) m k) (zero-lt-suc 2));
     }
 
+-- entry 0 is the zero row
 pub multiples-table : (w : ℕ) (words : List ℕ) (a p : ℕ) (table : List ℕ) → Multiples w words a p table → Table w table
 multiples-table w words a p table x =
     record {
@@ -101,3 +125,23 @@ zero-table w h =
       long = rw (length-zeros 48) (omega arith);
       zero-entry = λ m l k. ap₂ (λ (x u : ℕ). tritOf x u k) (getD-zeros 48 (0 + m)) (getD-zeros 48 (0 + w + m)) ∙ ap₂ (λ (x u : ℕ). x + 2 * u) (bit-at-zero k) (bit-at-zero k);
     }
+
+-- ---- a digit times trits, under masks
+
+-- a word has no bit past its places
+past-word : (x k : ℕ) → x < 2 ^ 64 → 64 ≤ k → bitAt x k ≡ 0
+past-word x k h l = ap (λ (v : ℕ). v % 2) (div-eq-of-lt (lt-of-lt-of-le h (pow-le-pow-right {n = 2} (zero-lt-suc 1) l)))
+
+-- with the bits of a trit in all places of two masks, the product in each place is that trit times the other
+pub masks-times : (x u bit e f m n : ℕ) → e < 2 ^ 64 → f < 2 ^ 64 → m ≡ bitAt x bit * 0xffffffffffffffff → n ≡ bitAt u bit * 0xffffffffffffffff
+    → (k : ℕ) → digitProduct (tritOf m n k % 3) (tritOf e f k % 3) ≡ tritOf x u bit * tritOf e f k % 3
+masks-times x u bit e f m n he hf hm hn k = remainder-product (tritOf m n k) (tritOf e f k) ∙ go (decLt k 64)
+  where
+    go : Dec (k < 64) → tritOf m n k * tritOf e f k % 3 ≡ tritOf x u bit * tritOf e f k % 3
+    go (yes l) =
+        ap₂ (λ (v z : ℕ). (v + 2 * z) * tritOf e f k % 3)
+        (ap (λ (v : ℕ). bitAt v k) hm ∙ mask-bit-at (bitAt x bit) k (bit-at-lt x bit) l)
+        (ap (λ (v : ℕ). bitAt v k) hn ∙ mask-bit-at (bitAt u bit) k (bit-at-lt u bit) l)
+    go (no l) =
+        let z : tritOf e f k % 3 ≡ 0 = ap₂ (λ (v z : ℕ). (v + 2 * z) % 3) (past-word e k he (omega arith)) (past-word f k hf (omega arith)) in
+        times-zero (tritOf m n k) (tritOf e f k) z ∙ sym (times-zero (tritOf x u bit) (tritOf e f k) z)

@@ -18,7 +18,7 @@ use Rattle.linear_model.specs.Internal.Planes.{tritOf}
 use Rattle.linear_model.proofs.Tables.{same₂}
 use Rattle.linear_model.proofs.NumberBits.{bit-at-zero, bit-at-lt, bit-at-suc, or-bit-at}
 use Rattle.elimination_model.specs.Internal.Elimination.{factor, cleared}
-use Rattle.elimination_model.specs.Internal.Words.{wordTrit, digitAt, FitRow, FitRows, RowWritten, RowsWritten, SumWord, ClearedWord, NonzeroColumn, Pivot, Turn}
+use Rattle.elimination_model.specs.Internal.Words.{wordTrit, digitAt, FitRow, FitRows, RowWritten, RowsWritten, ClearedWord, NonzeroColumn, EntryWord, Pivot, Turn}
 use Rattle.elimination_model.proofs.Elimination.{Cleared, cleared-clears, Reduced, reduced-more}
 use Rattle.elimination_model.proofs.Internal.Writing.{next-or-before, rows-apart, written-map}
 
@@ -102,24 +102,19 @@ module _ (w t r word bit : ℕ) (words table : List ℕ) (turn : Turn w t r word
         fit = λ m l k. rw (next-row i words' h x m k l) (turn .pivot .fit .fit i m h l k);
       }
 
-  -- its digit is an entry of the table
-  pub entry : (i d : ℕ) (words' : List ℕ) → i < t → RowsWritten w (r + 1) i (ClearedWord w r word bit words) words words'
-      → d ≡ wordTrit w words' (2 * w * i) word bit → d < 3
-  entry i d words' h x e = rw e (next-fit i words' h x .fit word (turn .pivot .inside) bit)
-
-  -- and that entry clears it
-  pub row-cleared : (i d : ℕ) (words' words'' : List ℕ) → i < t → RowsWritten w (r + 1) i (ClearedWord w r word bit words) words words'
-      → d ≡ wordTrit w words' (2 * w * i) word bit
-      → RowWritten w (2 * w * i) w (SumWord w table (2 * w * d) words' (2 * w * i)) words' words''
+  -- the entry of its digit clears it
+  pub row-cleared : (i : ℕ) (words' words'' : List ℕ) → i < t → RowsWritten w (r + 1) i (ClearedWord w r word bit words) words words'
+      → RowWritten w (2 * w * i) w (EntryWord w table words' (2 * w * i) word bit) words' words''
       → RowWritten w (2 * w * i) w (ClearedWord w r word bit words i) words' words''
-  row-cleared i d words' words'' h x e y =
+  row-cleared i words' words'' h x y =
+      let d = wordTrit w words' (2 * w * i) word bit in
       written-map w (2 * w * i) w _ _ words' words'' y
       (λ m a u l s k.
       s k
-      ∙ ap₂ (λ (v z : ℕ). (v + z) % 3) (next-row i words' h x m k l) (turn .multiples .is d m (entry i d words' h x e) l k)
+      ∙ ap₂ (λ (v z : ℕ). (v + z) % 3) (next-row i words' h x m k l) (turn .multiples .is d m (next-fit i words' h x .fit word (turn .pivot .inside) bit) l k)
       ∙ add-mod-mod (wordTrit w words (2 * w * i) m k) (2 * (d * wordTrit w words (2 * w * r) word bit) * wordTrit w words (2 * w * r) m k) 3
       ∙ ap (λ (v : ℕ). (wordTrit w words (2 * w * i) m k + 2 * (v * wordTrit w words (2 * w * r) word bit) * wordTrit w words (2 * w * r) m k) % 3)
-      (e ∙ next-row i words' h x word bit (turn .pivot .inside)))
+      (next-row i words' h x word bit (turn .pivot .inside)))
 
 -- ---- rows as digits
 

@@ -3,7 +3,7 @@ use mathlib.Core.Path.{_≡_, refl, _∙_}
 use mathlib.Core.List.{List}
 use mathlib.Core.Logic.{_≢_, _⊎_, inl, inr}
 use Prim.Native.Nat.{ℕ, _+_, _*_, _<_, _≤_}
-use native.Mathlib.Nat.{eq-or-lt-of-le, le-of-suc-le-suc, mul-le-mul-left, mul-suc}
+use native.Mathlib.Nat.{eq-or-lt-of-le, le-of-suc-le-suc, zero-lt-suc, mul-le-mul-left, mul-suc}
 use native.Mathlib.Numerals.{add-one}
 use native.Mathlib.Decide.{decLt}
 use native.Mathlib.Omega.{arith}
@@ -53,6 +53,14 @@ written-more w b n holds words words' x u r l h f =
     go : (m : ℕ) → (m ≡ n) ⊎ (m < n) → holds m (getD (set one (b + w + n) u) (b + m) 0) (getD (set one (b + w + n) u) (b + w + m) 0)
     go m (inl p) = rw (p, new-low, new-high) f
     go m (inr p) = rw (other (b + m) (omega arith) (omega arith), other (b + w + m) (omega arith) (omega arith)) (r .is m p)
+
+-- a row of one word to a plane
+pub written-one : (b : ℕ) (holds : ℕ → ℕ → ℕ → Type 0) (words : List ℕ) (x u : ℕ) → b + 2 ≤ length words → holds 0 x u
+    → RowWritten 1 b 1 holds words (set (set words b x) (b + 1) u)
+written-one b holds words x u h f =
+    let low : b + 0 ≡ b = omega arith in
+    let high : b + 1 + 0 ≡ b + 1 = omega arith in
+    rw (low, high) at (written-more 1 b 0 holds words words x u (written-none 1 b holds words) (zero-lt-suc 0) h f)
 
 -- what is true of the words may be said otherwise
 pub written-map : (w b n : ℕ) (holds says : ℕ → ℕ → ℕ → Type 0) (words words' : List ℕ) → RowWritten w b n holds words words'

@@ -84,6 +84,15 @@ pub record Multiples (w : ℕ) (words : List ℕ) (a p : ℕ) (table : List ℕ)
   pub long : 6 * w ≤ length table
   pub is : (d m : ℕ) → d < 3 → m < w → (k : ℕ) → wordTrit w table (2 * w * d) m k ≡ 2 * (d * p) * wordTrit w words a m k % 3
 
+-- entry d of a table of three rows is entry 1, d times
+pub record Entries (w : ℕ) (table : List ℕ) : Type 0 where
+  pub long : 6 * w ≤ length table
+  pub is : (d m : ℕ) → d < 3 → m < w → (k : ℕ) → wordTrit w table (2 * w * d) m k ≡ d * wordTrit w table (2 * w * 1) m k % 3
+
+-- x and u are word m of the row from word b on plus the entry of its digit in place `bit` of its word `word`
+abbrev pub EntryWord : ℕ → List ℕ → List ℕ → ℕ → ℕ → ℕ → ℕ → ℕ → ℕ → Type 0
+EntryWord w table words b word bit = SumWord w table (2 * w * wordTrit w words b word bit) words b
+
 -- a table whose entry 0 is the zero row
 pub record Table (w : ℕ) (table : List ℕ) : Type 0 where
   pub long : 6 * w ≤ length table

@@ -4,10 +4,10 @@ use Prim.Native.Nat.{_+_, _-_, _*_, _<_, _≤_}
 use native.Mathlib.Nat.{mul-le-mul-left}
 use native.Mathlib.Omega.{arith}
 use lib.ListN.{length}
-use Rattle.elimination_model.specs.Internal.Words.{wordTrit, RowsWritten, ClearedWord}
+use Rattle.elimination_model.specs.Internal.Words.{RowsWritten, ClearedWord}
 use Rattle.elimination_model.proofs.Internal.Writing.{rows-apart, rows-none, rows-more}
-use Rattle.elimination_model.proofs.Internal.Tables.{entry-fit}
-use Rattle.elimination_model.proofs.Internal.Turns.{next-fit, entry, row-cleared}
+use Rattle.elimination_model.proofs.Internal.Tables.{multiples-entries}
+use Rattle.elimination_model.proofs.Internal.Turns.{next-fit, row-cleared}
 use Rattle.elimination.proofs.elimination.clear_rows.Statement.{statement}
 use Rattle.elimination.proofs.elimination.clear_rows.Tie as tie
 
@@ -38,57 +38,32 @@ mul-b-2 c =
 loop-holds : tie.Need-loop-holds Inv-loop μ-loop
 loop-holds c = (omega arith, omega (arith, c .before .before .pre .pivot .within), refl, rows-none _ _ _ _)
 
-digit-in-requires : tie.Need-digit-in-requires Inv-loop μ-loop
-digit-in-requires c κs =
-    let s = c .before .before .before .before .before in
-    (place (c .before), s .pre .pivot .inside, s .pre .pivot .small)
-
--- the digit of row i in the column
-digit : (c : tie.After-digit-in Inv-loop μ-loop)
-    → (let l = c .before .before .before in
-    let a = l .before .before .before .args in
-    c .digit-in .result ≡ wordTrit (a .w) (l .loop .words) (2 * a .w * l .loop .i) (a .column .word) (a .column .bit))
-digit c = rw (c .before .before .before .loop .inv .2) at (c .digit-in .ensures)
-
-small : (c : tie.After-digit-in Inv-loop μ-loop) → c .digit-in .result < 3
-small c =
-    let l = c .before .before .before in
-    let s = l .before .before .before in
-    entry _ _ _ _ _ _ _ (s .pre) (l .loop .i) _ _ (inside (c .before .before)) (l .loop .inv .3) (digit c)
-
-mul-add-row : tie.Need-mul-add-row Inv-loop μ-loop
-mul-add-row c = omega (arith, place (c .before .before))
-
-mul-add-row-2 : tie.Need-mul-add-row-2 Inv-loop μ-loop
-mul-add-row-2 c =
-    let s = c .before .before .before .before .before .before in
-    omega (arith, s .pre .multiples .long, rows-apart (s .args .w) (c .digit-in .result) 3 (small c))
-
-add-row-requires : tie.Need-add-row-requires Inv-loop μ-loop
-add-row-requires c κs =
-    let l = c .before .before .before .before in
+add-entry-requires : tie.Need-add-entry-requires Inv-loop μ-loop
+add-entry-requires c κs =
+    let l = c .before .before in
     let s = l .before .before .before in (
-      entry-fit _ _ _ _ _ (s .pre .multiples) (c .before .digit-in .result) (small (c .before)),
-      rw (l .loop .inv .2) (next-fit _ _ _ _ _ _ _ (s .pre) (l .loop .i) _ (inside (c .before .before .before)) (l .loop .inv .3)),
+      rw (l .loop .inv .2) (next-fit _ _ _ _ _ _ _ (s .pre) (l .loop .i) _ (inside (c .before)) (l .loop .inv .3)),
+      multiples-entries _ _ _ _ _ (s .pre .multiples),
+      s .pre .pivot .inside,
+      s .pre .pivot .small,
     )
 
 mul-b-3 : tie.Need-mul-b-3 Inv-loop μ-loop
-mul-b-3 c = omega (arith, place (c .before .before .before .before .before .before))
+mul-b-3 c = omega (arith, place (c .before .before .before .before))
 
 add-b : tie.Need-add-b Inv-loop μ-loop
-add-b c = omega (arith, place (c .before .before .before .before .before .before))
+add-b c = omega (arith, place (c .before .before .before .before))
 
 loop-again : tie.Need-loop-again Inv-loop μ-loop
 loop-again c =
-    let d = c .before .before .before .before in
-    let l = d .before .before .before in
+    let l = c .before .before .before .before .before in
     let s = l .before .before .before in (
       omega arith,
       omega arith,
       omega arith,
       rows-more _ _ _ _ _ _ _ _ (l .loop .inv .3) (l .loop .inv .0) refl
-          (row-cleared _ _ _ _ _ _ _ (s .pre) (l .loop .i) (d .digit-in .result) _ _ (inside (d .before .before)) (l .loop .inv .3) (digit d)
-          (rw (l .loop .inv .2) at (c .before .before .add-row .ensures))),
+          (row-cleared _ _ _ _ _ _ _ (s .pre) (l .loop .i) _ _ (inside (c .before .before .before .before)) (l .loop .inv .3)
+          (rw (l .loop .inv .2) at (c .before .before .add-entry .ensures))),
     )
 
 returns : tie.Need-returns Inv-loop μ-loop
@@ -106,10 +81,7 @@ clear-rows-spec =
     (λ c. omega arith)
     mul-b-2
     loop-holds
-    digit-in-requires
-    mul-add-row
-    mul-add-row-2
-    add-row-requires
+    add-entry-requires
     (λ c. omega arith)
     mul-b-3
     add-b

@@ -72,14 +72,14 @@ next c =
     let a = l .before .before .before .before .before in
     omega (arith, c .rows-in .ensures, next-rows (layoutIn (a .args .layout)) (a .pre .0) (l .loop .b) (inside (c .before .before)))
 
-mul-load-rows : tie.Need-mul-load-rows Inv-loop μ-loop
-mul-load-rows c =
+mul-load-rows-by-size : tie.Need-mul-load-rows-by-size Inv-loop μ-loop
+mul-load-rows-by-size c =
     let r = c .before .before in
     let s = r .before .before .before .before .before .before .before .before in
     omega (arith, next r, count-small (layoutIn (s .args .layout)) (s .pre .0))
 
-load-rows-requires : tie.Need-load-rows-requires Inv-loop μ-loop
-load-rows-requires c κs =
+load-rows-by-size-requires : tie.Need-load-rows-by-size-requires Inv-loop μ-loop
+load-rows-by-size-requires c κs =
     let r = c .before .before in
     let l = r .before .before .before in
     let s = l .before .before .before .before .before in
@@ -97,7 +97,7 @@ loop-again c =
     let l = r .before .before .before in
     let s = l .before .before .before .before .before in
     let x = rw (before r) at (l .loop .inv .1) in
-    (omega arith, rw (next r) (loaded-more (s .pre .0) (block r) (s .args .v) (s .pre .2) x (c .before .before .load-rows .ensures)))
+    (omega arith, rw (next r) (loaded-more (s .pre .0) (block r) (s .args .v) (s .pre .2) x (c .before .before .load-rows-by-size .ensures)))
 
 returns : tie.Need-returns Inv-loop μ-loop
 returns c =
@@ -118,8 +118,8 @@ load-spec =
     loop-holds
     rows-at-requires
     rows-in-requires
-    mul-load-rows
-    load-rows-requires
+    mul-load-rows-by-size
+    load-rows-by-size-requires
     (λ c. omega arith)
     (λ c. omega arith)
     loop-again
