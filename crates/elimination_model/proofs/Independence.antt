@@ -1,15 +1,14 @@
 -- Rows are tied exactly if there is a choice that ties them, and else they are independent; zero rows, more rows, fewer columns.
 use mathlib.Core.Path.{_≡_, refl, sym, ap, _∙_}
 use mathlib.Core.List.{List}
-use mathlib.Core.Bool.{Bool, true, false, not, cond, _&&_, true≢false, false≢true}
+use mathlib.Core.Bool.{Bool, true, false, not, _&&_, true≢false, false≢true}
 use mathlib.Core.Logic.{_≢_, _⊎_, inl, inr}
 use Prim.Native.Nat.{ℕ, zero, suc, _+_, _-_, _*_, _%_, _<_, _≤_}
 use native.Mathlib.Nat.{mod-lt, mod-mod, le-trans, le-refl, le-step, zero-lt-suc, zero-mul, one-mul}
 use native.Mathlib.Decide.{ℕ-discrete}
 use native.Mathlib.Omega.{arith}
-use borrow.Author.Tests.{eq-eqb, ne-eqb, lt-ltb}
+use borrow.Author.Tests.{eq-eqb, lt-ltb}
 use lib.Dec.{T, T-not, not-T, eqb, eqb→eq, lit<}
-use lib.ListN.{getD}
 use Rattle.linear_model.specs.Tables.{sum, every, tabulate, below, oneAt}
 use Rattle.linear_model.proofs.Tables.{bool-ext, and-left, and-right, and-both, every-at, every-of, length-tabulate, getD-tabulate, small-tabulate, below-past, one-there, one-elsewhere}
 use Rattle.linear_model.proofs.Sums.{sum-ext, sum-zeros, sum-one}

@@ -1,5 +1,5 @@
 -- Sums of multiples of rows: equal terms, sums and multiples.
-use mathlib.Core.Path.{_≡_, refl, _∙_}
+use mathlib.Core.Path.{_≡_, _∙_}
 use Prim.Native.Nat.{ℕ, zero, suc, _+_, _*_, _%_, _<_}
 use native.Mathlib.Nat.{mul-comm, mul-assoc, mul-add, add-mul}
 use native.Mathlib.Omega.{arith}
