@@ -1,5 +1,6 @@
 /* What a host runs at power-on: in each set, and there in both lines, a sample whose code is known, through matrix
- * writer, dealer, both units and the counter's join, and frames, files, matrices and sets that must be refused.
+ * writer, dealer, both units and the counter's join, matrices whose tied rows are known, and frames, files, matrices
+ * and sets that must be refused.
  *
  *     self_test
  *
@@ -14,8 +15,8 @@
 
 /* The interface that this host was written for. Another one does not compile, where the host would else go
  * wrong; and a library of other lengths than this header's refuses the sample with 1. */
-#if PAIR_VERSION_MAJOR != 5 || PAIR_VERSION < PAIR_VERSION_OF(5, 0, 0)
-#error "this host is written for version 5 of service_pair.h"
+#if PAIR_VERSION_MAJOR != 5 || PAIR_VERSION < PAIR_VERSION_OF(5, 1, 0)
+#error "this host is written for version 5 of service_pair.h, from 5.1 on"
 #endif
 _Static_assert(sizeof(size_t) == sizeof(uint64_t), "the library is for 64 bits");
 
@@ -34,7 +35,7 @@ static struct {
     /* the frame that each unit is handed next; at last its share */
     uint8_t frames[2][PAIR_MAX_DEAL_FRAME_BYTES];
     /* a byte more than a call may write */
-    uint8_t out[PAIR_MAX_STEP_OUTPUT_BYTES + 1], code[PAIR_MAX_CODE_BYTES + 1];
+    uint8_t out[PAIR_MAX_STEP_OUTPUT_BYTES + 1], code[PAIR_MAX_CODE_BYTES + 1], tie[PAIR_MAX_TIE_BYTES + 1];
     uint8_t key[PAIR_MAX_KEY_BYTES], label[PAIR_MAX_LABEL_BYTES], input[PAIR_INPUT_BYTES];
     char digits[PAIR_MAX_DIGITS + 1];
 } held;
@@ -109,17 +110,23 @@ static void make_block_check(uint8_t block[PAIR_BLOCK_BYTES])
     block[PAIR_BLOCK_BYTES - 1] = (uint8_t)second;
 }
 
-/* Row 2 becomes twice row 0, so that digit 2 of every code would tell digit 0; or what it was. Rows begin at byte 4 of
- * a block, and these are in the first one in every set. */
-static void tie_rows(bool tied)
+/* Gives row 1 or 2 this digit in one of the first columns and 0 in all others. Rows begin at byte 4 of a block, and
+ * these are in the first one in every set. */
+static void make_row(size_t i, int column, int digit)
 {
     uint8_t row[PAIR_MAX_ROW_BYTES] = {0};
     size_t n = PAIR_ROW_BYTES_OF(set);
-    row[0] = tied ? 0 : 1 << 2;
-    row[n / 2] = tied;
-    memcpy(held.rows + 2 * n, row, n);
-    memcpy(held.file + 4 + 2 * n, row, n);
+    row[0] = (uint8_t)((digit == 1) << column);
+    row[n / 2] = (uint8_t)((digit == 2) << column);
+    memcpy(held.rows + i * n, row, n);
+    memcpy(held.file + 4 + i * n, row, n);
     make_block_check(held.file);
+}
+
+/* Row 2 becomes twice row 0, so that digit 2 of every code would tell digit 0; or what it was. */
+static void tie_rows(bool tied)
+{
+    make_row(2, tied ? 0 : 2, tied ? 2 : 1);
 }
 
 static void check_tied_rows(void)
@@ -135,6 +142,52 @@ static void check_tied_rows(void)
     tie_rows(false);
 }
 
+/* Asks which rows are tied, with so much room. */
+static uint32_t ask_tied_rows(size_t room, uint64_t *count)
+{
+    *count = UNWRITTEN;
+    memset(held.tie, UNWRITTEN, sizeof held.tie);
+    return pair_tied_rows(set, held.file, PAIR_FILE_BYTES_OF(set), held.tie, room, count);
+}
+
+static void check_list_refused(size_t room, uint32_t right, const char *what)
+{
+    uint64_t count;
+    check(ask_tied_rows(room, &count) == right, what);
+    check(all_are(UNWRITTEN, held.tie, sizeof held.tie) && count == 0, "a refused list writes and counts nothing");
+}
+
+static void check_list(uint64_t rows, const uint8_t *list)
+{
+    size_t room = PAIR_TIE_BYTES_OF(set), n = 2 * (size_t)rows;
+    uint64_t count;
+    check_list_refused(room - 1, PAIR_WRONG_LENGTH, "a list wants room for all rows of its set");
+    check(ask_tied_rows(room, &count) == PAIR_OK, "a list of tied rows is written");
+    check(count == rows, "the rows of a list are counted");
+    check(memcmp(held.tie, list, n) == 0 && all_are(UNWRITTEN, held.tie + n, sizeof held.tie - n),
+          "a list has the tied rows with their digits and no byte more");
+}
+
+/* Row 2 is made 0, 1 and 2 times row 0. A zero row is tied alone; row 0 and its equal, counted twice, add to the zero
+ * row, and so do row 0 and its double, counted once. With a zero row before them they are not told. */
+static void check_lists(void)
+{
+    static const uint8_t zero[] = {2, 1}, equal[] = {0, 1, 2, 2}, doubled[] = {0, 1, 2, 1}, before[] = {1, 1};
+    size_t room = PAIR_TIE_BYTES_OF(set);
+    check_list_refused(room, PAIR_NOT_TIED, "a fit matrix has no list of tied rows");
+    check_list_refused(room - 1, PAIR_WRONG_LENGTH, "a list wants room for all rows of its set");
+    make_row(2, 0, 0);
+    check_list(1, zero);
+    make_row(2, 0, 1);
+    check_list(2, equal);
+    make_row(2, 0, 2);
+    check_list(2, doubled);
+    make_row(1, 0, 0);
+    check_list(1, before);
+    make_row(1, 1, 1);
+    tie_rows(false);
+}
+
 /* Blocks have their set in byte 3. */
 static void name_set_in_file(uint32_t named)
 {
@@ -147,11 +200,13 @@ static void check_file_of_other_set(void)
 {
     size_t file_n = PAIR_FILE_BYTES_OF(set), n = PAIR_KEY_BYTES_OF(set);
     uint32_t other = set % PAIR_SETS + 1;
+    uint64_t count;
     check(pair_matrix_check(other, held.file, file_n) == PAIR_WRONG_LENGTH,
           "a file of another set is refused by its length");
     name_set_in_file(other);
     check(pair_matrix_check(set, held.file, file_n) == PAIR_BLOCK_LAYOUT &&
               pair_matrix_read(set, held.file, file_n, held.rows, sizeof held.rows) == PAIR_BLOCK_LAYOUT &&
+              ask_tied_rows(sizeof held.tie, &count) == PAIR_BLOCK_LAYOUT &&
               pair_evaluate(set, held.key, n, held.label, n, held.file, file_n, held.code, sizeof held.code) ==
                   PAIR_BLOCK_LAYOUT,
           "a block of another set is refused by its number");
@@ -179,12 +234,13 @@ static void check_without_set(void)
     const uint8_t *in = held.file;
     uint8_t *out = held.out;
     size_t out_n = sizeof held.out;
-    uint64_t next = 1, dealt_next = 1;
+    uint64_t next = 1, dealt_next = 1, count = 1;
     memset(out, UNWRITTEN, out_n);
     const uint32_t numbers[] = {
         pair_matrix_check(set, in, 0),
         pair_matrix_write(set, in, 0, out, out_n),
         pair_matrix_read(set, in, 0, out, out_n),
+        pair_tied_rows(set, in, 0, out, out_n, &count),
         pair_evaluate(set, in, 0, in, 0, in, 0, out, out_n),
         pair_sample(set, 0, in, 0, out, out_n, &next),
         pair_deal(set, SESSION, line, in, 0, out, out_n),
@@ -194,7 +250,7 @@ static void check_without_set(void)
     for (size_t i = 0; i < sizeof numbers / sizeof numbers[0]; i++)
         check(numbers[i] == PAIR_NO_SET, "a number that is no set is refused before all else");
     check(all_are(UNWRITTEN, out, out_n), "a call without a set writes nothing");
-    check(next == 0 && dealt_next == 0, "a call without a set sets a place to 0");
+    check(next == 0 && dealt_next == 0 && count == 0, "a call without a set sets a place or count to 0");
     check_refused_beginning(PAIR_NO_SET);
 }
 
@@ -397,6 +453,7 @@ static void test_set(void)
 {
     make_sample();
     check_tied_rows();
+    check_lists();
     check_file_of_other_set();
     check_refused_beginning(PAIR_WRONG_LENGTH);
     begin_units();

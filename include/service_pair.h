@@ -38,15 +38,15 @@
  *
  * STACK. What each call uses at most in any set, arguments and return address included, in KiB, rounded up:
  *
- *     pair_matrix_check  21.5     pair_evaluate     21.9     pair_begin             0.1
- *     pair_matrix_read   21.7     pair_sample        0.7     pair_step, with deal   0.4
- *     pair_matrix_write  22.3     pair_deal          2.8     .. with open           3.1
- *     pair_join           0.3     pair_deal_source   3.4     .. with mask          21.8
- *                                                            pair_run              25.3
+ *     pair_matrix_check  21.5     pair_evaluate     21.8     pair_begin             0.1
+ *     pair_matrix_read   21.6     pair_sample        0.7     pair_step, with deal   0.4
+ *     pair_matrix_write  22.2     pair_deal          2.8     .. with open           3.1
+ *     pair_tied_rows     29.0     pair_deal_source   3.4     .. with mask          21.7
+ *                                 pair_join          0.3     pair_run              25.3
  *
  * What judges a matrix has room for all rows of set 3, whichever set is named. A program that looks for memcpy and
- * memset at their first use (lazy binding) takes about 3.1 KiB below where they are called, so pair_run 27.7 in all
- * where it is the first call; linked with -z now it does not. Measured, not proved: the library was made by the
+ * memset at their first use (lazy binding) takes about 3.1 KiB below where they are called, so pair_tied_rows 31.2 in
+ * all where it is the first call; linked with -z now it does not. Measured, not proved: the library was made by the
  * toolchain rattle-kit-5b, its callers by GCC 12 and Clang 14.
  * tests/c/stack.c measures the table again.
  *
@@ -67,7 +67,7 @@
  * number is another), MINOR where a call, a number or a name was added, PATCH where neither is. The library
  * has no version of its own: header and library are of one build. */
 #define PAIR_VERSION_MAJOR 5
-#define PAIR_VERSION_MINOR 0
+#define PAIR_VERSION_MINOR 1
 #define PAIR_VERSION_PATCH 0
 #define PAIR_VERSION_OF(major, minor, patch) ((major) * 10000 + (minor) * 100 + (patch))
 #define PAIR_VERSION PAIR_VERSION_OF(PAIR_VERSION_MAJOR, PAIR_VERSION_MINOR, PAIR_VERSION_PATCH)
@@ -102,6 +102,7 @@
  *     row of the public matrix       64     16    128    n trits
  *     rows                         5184    336  20736    t rows
  *     matrix file                  6144    512  27648    12, 1 and 54 blocks of 512 bytes, each with a check
+ *     room for a list of tied rows  162     42    324    t times row number and digit, a byte each
  *     tape                          256     64    512    3n/4 bytes, then n trits
  *     deal frame                    167     47    327    kind 1, dealer to unit: the unit's deal
  *     both deal frames              334     94    654    unit 0's first
@@ -119,6 +120,7 @@
 #define PAIR_BLOCK_BYTES 512
 #define PAIR_BLOCKS_OF(set) ((set) == 1 ? 12 : (set) == 2 ? 1 : (set) == 3 ? 54 : 0) /* of 7, 28 and 3 rows at most */
 #define PAIR_FILE_BYTES_OF(set) (PAIR_BLOCKS_OF(set) * PAIR_BLOCK_BYTES)
+#define PAIR_TIE_BYTES_OF(set) (2 * PAIR_DIGITS_OF(set)) /* the least output slice of pair_tied_rows */
 #define PAIR_TAPE_BYTES_OF(set) PAIR_BITS_OF(set)
 #define PAIR_DEAL_FRAME_BYTES_OF(set) (PAIR_HEADER_BYTES + 5 * PAIR_KEY_BYTES_OF(set))
 #define PAIR_OPEN_FRAME_BYTES_OF(set) (PAIR_HEADER_BYTES + 2 * PAIR_KEY_BYTES_OF(set))
@@ -140,6 +142,7 @@
 #define PAIR_CODE_BYTES PAIR_CODE_BYTES_OF(1)
 #define PAIR_ROWS_BYTES PAIR_ROWS_BYTES_OF(1)
 #define PAIR_FILE_BYTES PAIR_FILE_BYTES_OF(1)
+#define PAIR_TIE_BYTES PAIR_TIE_BYTES_OF(1)
 #define PAIR_TAPE_BYTES PAIR_TAPE_BYTES_OF(1)
 #define PAIR_DEAL_FRAME_BYTES PAIR_DEAL_FRAME_BYTES_OF(1)
 #define PAIR_OPEN_FRAME_BYTES PAIR_OPEN_FRAME_BYTES_OF(1)
@@ -159,6 +162,7 @@
 #define PAIR_MAX_ROW_BYTES PAIR_ROW_BYTES_OF(3)
 #define PAIR_MAX_ROWS_BYTES PAIR_ROWS_BYTES_OF(3)
 #define PAIR_MAX_FILE_BYTES PAIR_FILE_BYTES_OF(3)
+#define PAIR_MAX_TIE_BYTES PAIR_TIE_BYTES_OF(3)
 #define PAIR_MAX_TAPE_BYTES PAIR_TAPE_BYTES_OF(3)
 #define PAIR_MAX_DEAL_FRAME_BYTES PAIR_DEAL_FRAME_BYTES_OF(3)
 #define PAIR_MAX_OPEN_FRAME_BYTES PAIR_OPEN_FRAME_BYTES_OF(3)
@@ -171,7 +175,7 @@
 
 /* Of every set. */
 #define PAIR_STATE_BYTES 520   /* a unit's state: see pair_begin */
-#define PAIR_STACK_BYTES 30720 /* more than any call uses of the stack: see STACK */
+#define PAIR_STACK_BYTES 34816 /* more than any call uses of the stack: see STACK */
 
 enum pair_kind { PAIR_DEAL = 1, PAIR_OPEN = 2, PAIR_MASK = 3, PAIR_SHARE = 4 };
 
@@ -205,11 +209,12 @@ enum pair_number {
     PAIR_UNUSED_BIT = 11,     /* an unused bit set in a share frame */
     PAIR_TIED_ROWS = 12,      /* a choice of digits, not all 0, makes the rows of the matrix, so multiplied, add to the
                                  zero row modulo 3: a zero row, two equal rows, one twice another, or any
-                                 row that others, once or twice, add up to */
+                                 row that others, once or twice, add up to. pair_tied_rows alone takes such a file */
     PAIR_SHORT_SOURCE = 13,   /* a source has fewer than 3n pairs from the start, or fewer than n other than 3 after
                                  those, or 2^62 bytes or more, whose pairs 64 bits would not count */
     PAIR_NO_SET = 14,         /* set is not 1, 2 or 3: looked at before all other numbers */
-    PAIR_OTHER_LINE = 15      /* line is not the unit's; in join, the two differ: looked at after all other numbers */
+    PAIR_OTHER_LINE = 15,     /* line is not the unit's; in join, the two differ: looked at after the call's others */
+    PAIR_NOT_TIED = 16        /* the matrix file is fit, so that pair_tied_rows has no rows to tell */
 };
 
 #ifdef __cplusplus
@@ -230,6 +235,16 @@ uint32_t pair_matrix_write(uint32_t set, const uint8_t *rows, size_t rows_n, uin
 /* Writes the t rows (PAIR_ROWS_BYTES_OF) of a file (PAIR_FILE_BYTES_OF). Gives 0, 1, 8, 9, 10, 12 or 14. */
 PAIR_NODISCARD PAIR_NONNULL
 uint32_t pair_matrix_read(uint32_t set, const uint8_t *file, size_t file_n, uint8_t *out, size_t out_n);
+
+/* Writes which rows of a file (PAIR_FILE_BYTES_OF) are tied, where pair_matrix_check gives 12, and sets *count to how
+ * many they are. Each takes two bytes of out (at least PAIR_TIE_BYTES_OF), its row number from 0 and then its digit;
+ * the row numbers rise, and what follows the last row stays as it was. The digits are 1 or 2, the first one 1, and the
+ * rows so multiplied add to the zero row modulo 3; without any one of these rows the others are not tied. All stand in
+ * the shortest beginning of the matrix whose rows are tied, and its last row is one of them: there is just one such
+ * list. Ties of later rows are not told: a maker draws one of these rows anew, and asks again. Gives 0, 1, 8, 9, 10, 14
+ * or 16: a tied file gives 0 here, a fit one 16. */
+PAIR_NODISCARD PAIR_NONNULL
+uint32_t pair_tied_rows(uint32_t set, const uint8_t *file, size_t file_n, uint8_t *out, size_t out_n, uint64_t *count);
 
 /* The function in one place, for whoever has a whole key and a whole label: writes the code
  * (PAIR_CODE_BYTES_OF). Gives 0, 1, 8, 9, 10, 12 or 14. */

@@ -41,6 +41,8 @@ static inline const char *pair_number_text(uint32_t number)
         return "a set is 1, 2 or 3";
     case PAIR_OTHER_LINE:
         return "a frame is of another line";
+    case PAIR_NOT_TIED:
+        return "the rows of the matrix are not tied: its file is fit";
     default:
         return "no number of the table";
     }

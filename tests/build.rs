@@ -4,7 +4,7 @@ use std::env;
 use std::path::PathBuf;
 
 /// The static libraries that tests link, each made by `rt staticlib NAME`.
-const LIBRARIES: [&str; 2] = ["linear", "protocol"];
+const LIBRARIES: [&str; 3] = ["linear", "elimination_ties", "protocol"];
 
 fn main() {
     let folder = library_folder();

@@ -16,6 +16,7 @@ enum fault {
     NO_SET_AFTER_LENGTHS,
     NO_SET_WRITES,
     NO_SET_LEAVES_PLACE,
+    NO_SET_LEAVES_COUNT,
     BEGIN_NO_SET_AFTER_LENGTHS,
     BEGIN_REFUSED_WRITES_OTHER_LENGTH,
     BEGIN_REFUSED_KEEPS_STATE,
@@ -30,6 +31,21 @@ enum fault {
     CHECK_PASSES_OVER_BYTE_3,
     READ_PASSES_OVER_BYTE_3,
     READ_TAKES_TIED_ROWS,
+    LIST_OF_FIT_ROWS,
+    LIST_REFUSES_ZERO_ROW,
+    LIST_REFUSES_TIED_ROWS,
+    LIST_TAKES_LITTLE_ROOM,
+    LIST_NOT_TIED_BEFORE_LENGTHS,
+    LIST_PASSES_OVER_BYTE_3,
+    LIST_REFUSED_WRITES,
+    LIST_REFUSED_LEAVES_COUNT,
+    LIST_COUNTS_BYTES,
+    LIST_FALLS,
+    LIST_WITH_FIRST_DIGIT_2,
+    LIST_OF_NEXT_ROW,
+    LIST_OF_LATER_TIE,
+    LIST_WRITES_MORE,
+    LIST_FILLS_ITS_ROOM,
     DEAL_REFUSES,
     DEAL_IN_LINE_0,
     BEGIN_REFUSES,
@@ -82,7 +98,8 @@ static const char *const first_failed[FAULTS] = {
     [NO_SET_IS_SET_1] = "a number that is no set is refused before all else",
     [NO_SET_AFTER_LENGTHS] = "a number that is no set is refused before all else",
     [NO_SET_WRITES] = "a call without a set writes nothing",
-    [NO_SET_LEAVES_PLACE] = "a call without a set sets a place to 0",
+    [NO_SET_LEAVES_PLACE] = "a call without a set sets a place or count to 0",
+    [NO_SET_LEAVES_COUNT] = "a call without a set sets a place or count to 0",
     [BEGIN_NO_SET_AFTER_LENGTHS] = "a beginning is refused by its number",
     [BEGIN_REFUSED_WRITES_OTHER_LENGTH] = "a state slice of another length is left as it was",
     [BEGIN_REFUSED_KEEPS_STATE] = "a refused beginning writes the idle state",
@@ -97,6 +114,21 @@ static const char *const first_failed[FAULTS] = {
     [CHECK_PASSES_OVER_BYTE_3] = "a block of another set is refused by its number",
     [READ_PASSES_OVER_BYTE_3] = "a block of another set is refused by its number",
     [READ_TAKES_TIED_ROWS] = "a matrix whose rows are tied is refused by its number",
+    [LIST_OF_FIT_ROWS] = "a fit matrix has no list of tied rows",
+    [LIST_REFUSES_ZERO_ROW] = "a list of tied rows is written",
+    [LIST_REFUSES_TIED_ROWS] = "a list of tied rows is written",
+    [LIST_TAKES_LITTLE_ROOM] = "a list wants room for all rows of its set",
+    [LIST_NOT_TIED_BEFORE_LENGTHS] = "a list wants room for all rows of its set",
+    [LIST_PASSES_OVER_BYTE_3] = "a block of another set is refused by its number",
+    [LIST_REFUSED_WRITES] = "a refused list writes and counts nothing",
+    [LIST_REFUSED_LEAVES_COUNT] = "a refused list writes and counts nothing",
+    [LIST_COUNTS_BYTES] = "the rows of a list are counted",
+    [LIST_FALLS] = "a list has the tied rows with their digits and no byte more",
+    [LIST_WITH_FIRST_DIGIT_2] = "a list has the tied rows with their digits and no byte more",
+    [LIST_OF_NEXT_ROW] = "a list has the tied rows with their digits and no byte more",
+    [LIST_OF_LATER_TIE] = "the rows of a list are counted",
+    [LIST_WRITES_MORE] = "a list has the tied rows with their digits and no byte more",
+    [LIST_FILLS_ITS_ROOM] = "a list has the tied rows with their digits and no byte more",
     [DEAL_REFUSES] = "the dealer deals",
     /* seen in line 1, as the other faults named LINE_0 */
     [DEAL_IN_LINE_0] = "a unit takes the frame that it waits for",
@@ -195,6 +227,50 @@ static uint32_t faulty_read(uint32_t set, const uint8_t *file, size_t file_n, ui
     uint32_t number = pair_matrix_read(set, file, file_n, out, out_n);
     number = accepting(READ_TAKES_TIED_ROWS, PAIR_TIED_ROWS, number);
     return accepting(READ_PASSES_OVER_BYTE_3, PAIR_BLOCK_LAYOUT, number);
+}
+
+/* What an accepted call has written of which rows are tied. */
+static void spoil_list(uint8_t *out, size_t out_n, uint64_t *count)
+{
+    size_t n = 2 * (size_t)*count;
+    if (fault == LIST_FALLS && n == 4) {
+        const uint8_t falling[4] = {out[2], out[3], out[0], out[1]};
+        memcpy(out, falling, n);
+    }
+    for (size_t i = 1; fault == LIST_WITH_FIRST_DIGIT_2 && i < n; i += 2)
+        out[i] = (uint8_t)(3 - out[i]);
+    out[n - 2] += fault == LIST_OF_NEXT_ROW;
+    /* the tie of rows 0 and 2, where row 1 is zero */
+    if (fault == LIST_OF_LATER_TIE && out[0] == 1) {
+        static const uint8_t later[4] = {0, 1, 2, 1};
+        memcpy(out, later, sizeof later);
+        *count = 2;
+    }
+    out[n] ^= fault == LIST_WRITES_MORE;
+    if (fault == LIST_FILLS_ITS_ROOM)
+        memset(out + n, 0, out_n - n);
+    if (fault == LIST_COUNTS_BYTES)
+        *count = n;
+}
+
+static uint32_t faulty_tied_rows(uint32_t set, const uint8_t *file, size_t file_n, uint8_t *out, size_t out_n,
+                                 uint64_t *count)
+{
+    uint64_t before = *count;
+    uint32_t number = pair_tied_rows(set, file, file_n, out, out_n, count);
+    if (number == PAIR_OK) {
+        bool refuses = fault == (*count == 1 ? LIST_REFUSES_ZERO_ROW : LIST_REFUSES_TIED_ROWS);
+        spoil_list(out, out_n, count);
+        return refuses ? PAIR_TIED_ROWS : number;
+    }
+    if (fault == (number == PAIR_NO_SET ? NO_SET_LEAVES_COUNT : LIST_REFUSED_LEAVES_COUNT))
+        *count = before;
+    out[0] ^= fault == LIST_REFUSED_WRITES && number != PAIR_NO_SET;
+    if (fault == LIST_NOT_TIED_BEFORE_LENGTHS && pair_matrix_check(set, file, file_n) == PAIR_OK)
+        return PAIR_NOT_TIED;
+    number = accepting(LIST_OF_FIT_ROWS, PAIR_NOT_TIED, number);
+    number = accepting(LIST_TAKES_LITTLE_ROOM, PAIR_WRONG_LENGTH, number);
+    return accepting(LIST_PASSES_OVER_BYTE_3, PAIR_BLOCK_LAYOUT, number);
 }
 
 static uint32_t faulty_sample(uint32_t set, uint64_t start, const uint8_t *source, size_t source_n, uint8_t *out,
@@ -353,6 +429,7 @@ static uint32_t faulty_evaluate(uint32_t set, const uint8_t *key, size_t key_n, 
 #define pair_matrix_write faulty_write
 #define pair_matrix_check faulty_check
 #define pair_matrix_read faulty_read
+#define pair_tied_rows faulty_tied_rows
 #define pair_sample faulty_sample
 #define pair_deal faulty_deal
 #define pair_begin faulty_begin

@@ -1,5 +1,5 @@
 /* Inputs of the tests in C: numbers that look random, the same in every run (xorshift), fit trits, rows near to
- * tied, a block's check, how long frames are, and what pair_run takes. */
+ * tied, a block's check, a row that is tied to all others, how long frames are, and what pair_run takes. */
 #ifndef TEST_INPUTS_H
 #define TEST_INPUTS_H
 
@@ -52,6 +52,23 @@ static inline void make_block_check(uint8_t block[PAIR_BLOCK_BYTES])
     }
     block[PAIR_BLOCK_BYTES - 2] = (uint8_t)first;
     block[PAIR_BLOCK_BYTES - 1] = (uint8_t)second;
+}
+
+/* Makes the last row of a file of these rows the sum of all others, so that all rows are in the list of tied ones. No
+ * call writes such a file. Byte 2 of a block is how many rows it has, and they begin at byte 4. */
+static inline void tie_last_row(uint32_t set, const uint8_t *rows, uint8_t *file)
+{
+    size_t n = (size_t)PAIR_ROW_BYTES_OF(set), plane = n / 2;
+    uint8_t *block = file + PAIR_FILE_BYTES_OF(set) - PAIR_BLOCK_BYTES, *sum = block + 4 + (block[2] - 1u) * n;
+    memset(sum, 0, n);
+    for (int i = 0; i < PAIR_DIGITS_OF(set) - 1; i++, rows += n) {
+        for (size_t k = 0; k < plane; k++) {
+            unsigned low = sum[k], high = sum[plane + k], odd = (low | rows[plane + k]) ^ (high | rows[k]);
+            sum[k] = (uint8_t)((high | rows[plane + k]) ^ odd);
+            sum[plane + k] = (uint8_t)((low | rows[k]) ^ odd);
+        }
+    }
+    make_block_check(block);
 }
 
 /* The length of the frame that step 0, 1 or 2 takes, and after them of the share. */

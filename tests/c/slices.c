@@ -60,6 +60,11 @@ static uint32_t run_read(const struct call *call, const struct lent *s, uint64_t
     return pair_matrix_read(call->set, s[0].p, s[0].n, s[1].p, s[1].n);
 }
 
+static uint32_t run_tied_rows(const struct call *call, const struct lent *s, uint64_t *count)
+{
+    return pair_tied_rows(call->set, s[0].p, s[0].n, s[1].p, s[1].n, count);
+}
+
 static uint32_t run_evaluate(const struct call *call, const struct lent *s, uint64_t *count)
 {
     (void)count;
@@ -211,9 +216,10 @@ static void try_lengths_of_sets(const struct call *call, size_t *lengths, int i)
     for (uint32_t other = 1; other <= PAIR_SETS; other++) {
         const int others[] = {PAIR_KEY_BYTES_OF(other),         PAIR_CODE_BYTES_OF(other),
                               PAIR_ROWS_BYTES_OF(other),        PAIR_FILE_BYTES_OF(other),
-                              PAIR_TAPE_BYTES_OF(other),        PAIR_DEALT_BYTES_OF(other),
-                              PAIR_DEAL_FRAME_BYTES_OF(other),  PAIR_OPEN_FRAME_BYTES_OF(other),
-                              PAIR_MASK_FRAME_BYTES_OF(other),  PAIR_SHARE_FRAME_BYTES_OF(other)};
+                              PAIR_TIE_BYTES_OF(other),         PAIR_TAPE_BYTES_OF(other),
+                              PAIR_DEALT_BYTES_OF(other),       PAIR_DEAL_FRAME_BYTES_OF(other),
+                              PAIR_OPEN_FRAME_BYTES_OF(other),  PAIR_MASK_FRAME_BYTES_OF(other),
+                              PAIR_SHARE_FRAME_BYTES_OF(other)};
         for (size_t k = 0; k < sizeof others / sizeof others[0]; k++) {
             lengths[i] = (size_t)others[k];
             try_both(call, lengths, -1);
@@ -284,6 +290,8 @@ static uint8_t mixed_file[PAIR_MAX_FILE_BYTES];
  * see that they are not tied */
 static uint8_t tied_rows[PAIR_MAX_ROWS_BYTES], tied_file[PAIR_MAX_FILE_BYTES];
 static uint8_t near_rows[PAIR_MAX_ROWS_BYTES], near_file[PAIR_MAX_FILE_BYTES];
+/* a file where the last row is the sum of all others, so that all are in the list of tied rows */
+static uint8_t sum_file[PAIR_MAX_FILE_BYTES];
 /* each unit's state before each step and when done, and the frame of each step */
 static uint8_t states[2][4][PAIR_STATE_BYTES], frames[2][4][PAIR_MAX_DEAL_FRAME_BYTES];
 
@@ -323,6 +331,8 @@ static void make_matrix(void)
     make_block_check(block);
     make_near_file();
     make_tied();
+    memcpy(sum_file, file, file_n);
+    tie_last_row(set, rows, sum_file);
 }
 
 static void make_steps(void)
@@ -467,8 +477,10 @@ static void try_others(void)
 {
     size_t file_n = PAIR_FILE_BYTES_OF(set), rows_n = PAIR_ROWS_BYTES_OF(set), dealt_n = PAIR_DEALT_BYTES_OF(set);
     size_t key_n = PAIR_KEY_BYTES_OF(set), label_n = PAIR_LABEL_BYTES_OF(set), code_n = PAIR_CODE_BYTES_OF(set);
+    size_t digits_n = PAIR_DIGITS_OF(set);
     const struct slice a_file = {INPUT, file, file_n}, mixed = {INPUT, mixed_file, file_n};
     const struct slice tied = {INPUT, tied_file, file_n}, near = {INPUT, near_file, file_n};
+    const struct slice all_tied = {INPUT, sum_file, file_n}, to_list = {OUTPUT, NULL, PAIR_TIE_BYTES_OF(set)};
     const struct slice a_key = {INPUT, keys[0], key_n}, a_label = {INPUT, labels[0], label_n};
     const struct slice a_tape = {INPUT, tape, PAIR_TAPE_BYTES_OF(set)}, all_rows = {INPUT, rows, rows_n};
     const struct slice to_refuse = {INPUT, tied_rows, rows_n}, to_accept = {INPUT, near_rows, rows_n};
@@ -490,6 +502,12 @@ static void try_others(void)
         {"pair_matrix_read", set, run_read, {mixed, to_rows}, .n = 2, .number = PAIR_BLOCK_LAYOUT},
         {"pair_matrix_read", set, run_read, {tied, to_rows}, .n = 2, .number = PAIR_TIED_ROWS},
         {"pair_matrix_read", set, run_read, {near, to_rows}, .n = 2, .writes = rows_n},
+        {"pair_tied_rows", set, run_tied_rows, {a_file, to_list}, .n = 2, .counts = true, .number = PAIR_NOT_TIED},
+        {"pair_tied_rows", set, run_tied_rows, {mixed, to_list}, .n = 2, .counts = true, .number = PAIR_BLOCK_LAYOUT},
+        {"pair_tied_rows", set, run_tied_rows, {tied, to_list}, .n = 2, .counts = true, .count = 2, .writes = 4},
+        {"pair_tied_rows", set, run_tied_rows, {all_tied, to_list}, .n = 2, .counts = true, .count = digits_n,
+         .writes = 2 * digits_n},
+        {"pair_tied_rows", set, run_tied_rows, {near, to_list}, .n = 2, .counts = true, .number = PAIR_NOT_TIED},
         {"pair_evaluate", set, run_evaluate, {a_key, a_label, a_file, to_code}, .n = 4, .writes = code_n},
         {"pair_evaluate", set, run_evaluate, {a_key, a_label, mixed, to_code}, .n = 4, .number = PAIR_BLOCK_LAYOUT},
         {"pair_evaluate", set, run_evaluate, {a_key, a_label, tied, to_code}, .n = 4, .number = PAIR_TIED_ROWS},

@@ -38,6 +38,8 @@ static void made(const char *what, uint32_t number)
 /* The set of the calls. */
 static uint32_t set;
 static uint8_t rows[PAIR_MAX_ROWS_BYTES], file[PAIR_MAX_FILE_BYTES], source[PAIR_MAX_SOURCE_BYTES];
+/* the file with its last row tied to all others */
+static uint8_t tied_file[PAIR_MAX_FILE_BYTES];
 static uint8_t tape[PAIR_MAX_TAPE_BYTES], dealt[PAIR_MAX_DEALT_BYTES], input[PAIR_INPUT_BYTES];
 static uint8_t keys[2][PAIR_MAX_KEY_BYTES], labels[2][PAIR_MAX_LABEL_BYTES];
 /* what a draw that begins inside a byte makes */
@@ -70,6 +72,9 @@ static void make_inputs(bool near)
 {
     make_rows(near);
     made("pair_matrix_write", pair_matrix_write(set, rows, PAIR_ROWS_BYTES_OF(set), file, sizeof file));
+    memcpy(tied_file, file, sizeof tied_file);
+    tie_last_row(set, rows, tied_file);
+    made("pair_tied_rows", pair_tied_rows(set, tied_file, PAIR_FILE_BYTES_OF(set), out, sizeof out, &count));
     fill(source, sizeof source);
     make_tape(0, tape, dealt);
     make_tape(1, inside_tape, inside_dealt);
@@ -216,6 +221,7 @@ static size_t copies_of(const uint8_t *half)
 CALL(matrix_check, pair_matrix_check(set, file, FILE_N))
 CALL(matrix_write, pair_matrix_write(set, rows, PAIR_ROWS_BYTES_OF(set), out, sizeof out))
 CALL(matrix_read, pair_matrix_read(set, file, FILE_N, out, sizeof out))
+CALL(tied_rows, pair_tied_rows(set, tied_file, FILE_N, out, sizeof out, &count))
 CALL(evaluate, pair_evaluate(set, keys[0], KEY_N, labels[0], KEY_N, file, FILE_N, out, sizeof out))
 CALL(sample, pair_sample(set, 0, source, SOURCE_N, out, sizeof out, &count))
 CALL(sample_inside, pair_sample(set, 1, source, SOURCE_N, out, sizeof out, &count))
@@ -237,9 +243,10 @@ static struct call {
     size_t deepest;        /* in all sets */
 } calls[] = {
     {"pair_matrix_check", matrix_check, 215, NULL, 0},
-    {"pair_matrix_write", matrix_write, 223, NULL, 0},
-    {"pair_matrix_read", matrix_read, 217, NULL, 0},
-    {"pair_evaluate", evaluate, 219, NULL, 0},
+    {"pair_matrix_write", matrix_write, 222, NULL, 0},
+    {"pair_matrix_read", matrix_read, 216, NULL, 0},
+    {"pair_tied_rows", tied_rows, 290, NULL, 0},
+    {"pair_evaluate", evaluate, 218, NULL, 0},
     {"pair_sample", sample, 7, NULL, 0},
     {"pair_sample, start 1", sample_inside, 7, NULL, 0},
     {"pair_deal", deal, 28, NULL, 0},
@@ -248,7 +255,7 @@ static struct call {
     {"pair_begin", begin, 1, NULL, 0},
     {"pair_step, deal", step_deal, 4, states[0], 0},
     {"pair_step, open", step_open, 31, states[1], 0},
-    {"pair_step, mask", step_mask, 218, states[2], 0},
+    {"pair_step, mask", step_mask, 217, states[2], 0},
     {"pair_join", join, 3, NULL, 0},
     {"pair_run", whole_run, 253, NULL, 0},
 };

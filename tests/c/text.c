@@ -7,7 +7,7 @@
 #include <stdlib.h>
 #include <string.h>
 
-enum { NUMBERS = PAIR_OTHER_LINE + 1, GUARD = 16, TRIALS = 1000 };
+enum { NUMBERS = PAIR_NOT_TIED + 1, GUARD = 16, TRIALS = 1000 };
 
 _Static_assert(PAIR_VERSION == PAIR_VERSION_OF(PAIR_VERSION_MAJOR, PAIR_VERSION_MINOR, PAIR_VERSION_PATCH), "versions");
 _Static_assert(PAIR_VERSION_OF(1, 2, 3) < PAIR_VERSION_OF(1, 3, 0), "a version compares as one number");
@@ -30,6 +30,7 @@ LENGTH(LABEL_BYTES, 32, 8, 64, 0);
 LENGTH(CODE_BYTES, 22, 6, 42, 0);
 LENGTH(ROWS_BYTES, 5184, 336, 20736, 0);
 LENGTH(FILE_BYTES, 6144, 512, 27648, 0);
+LENGTH(TIE_BYTES, 162, 42, 324, 0);
 LENGTH(TAPE_BYTES, 256, 64, 512, 0);
 LENGTH(DEAL_FRAME_BYTES, 167, 47, 327, PAIR_HEADER_BYTES);
 LENGTH(OPEN_FRAME_BYTES, 71, 23, 135, PAIR_HEADER_BYTES);
@@ -45,7 +46,8 @@ _Static_assert(PAIR_ROW_BYTES_OF(1) == 64 && PAIR_ROW_BYTES_OF(2) == 16 && PAIR_
 _Static_assert(PAIR_INPUT_BYTES == 6528 && PAIR_STATE_BYTES == PAIR_HEADER_BYTES + 1 + 8 * PAIR_MAX_KEY_BYTES,
                "what has one length");
 _Static_assert(PAIR_HEADER_BYTES == 7 && PAIR_STATE_BYTES == 520, "the stated header and state");
-_Static_assert(PAIR_VERSION == PAIR_VERSION_OF(5, 0, 0) && PAIR_TIED_ROWS == 12, "the stated version and number");
+_Static_assert(PAIR_VERSION == PAIR_VERSION_OF(5, 1, 0), "the stated version");
+_Static_assert(PAIR_TIED_ROWS == 12 && PAIR_NOT_TIED == 16, "the stated numbers of rows that are tied and not");
 _Static_assert(PAIR_LINE_BIKES == 0 && PAIR_LINE_STORAGE == 1 && PAIR_OTHER_LINE == 15, "the stated lines");
 /* Existing hosts may ask the preprocessor. */
 #if PAIR_KEY_BYTES != 32 || PAIR_FILE_BYTES != 6144

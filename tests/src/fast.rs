@@ -38,6 +38,7 @@ pub mod matrix;
 pub mod rows;
 pub mod run;
 pub mod sampler;
+pub mod tied_rows;
 pub mod trits;
 pub mod unit;
 

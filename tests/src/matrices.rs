@@ -144,6 +144,38 @@ pub fn tie_any(random: &mut Random, rows: &mut [Vec<u8>], most: usize) -> usize 
     chosen[0]
 }
 
+/// So many of the rows below a limit, each once or twice: a tie to be planted.
+pub fn any_tie(random: &mut Random, count: usize, limit: usize) -> Terms {
+    let rows = shuffled(random, limit);
+    rows[..count].iter().map(|row| (*row, nonzero_digit(random))).collect()
+}
+
+/// Makes rows so multiplied add to the zero row, by changing one of them.
+pub fn plant(random: &mut Random, rows: &mut [Vec<u8>], terms: &[(usize, u8)]) {
+    let (row, digit) = random.choose(terms);
+    let others = terms.iter().filter(|(other, _)| *other != row);
+    // A row that counts twice is the sum of the others: 2 is -1. One that counts once
+    // is their negative.
+    let sum: Terms = others.map(|(other, times)| (*other, times * (3 - digit) % 3)).collect();
+    tie(rows, row, &sum);
+}
+
+/// The list of rows that so multiplied add to the zero row: row number and digit of
+/// each, the rows rising and the first digit 1.
+pub fn list_of(terms: &[(usize, u8)]) -> Vec<u8> {
+    let mut rising = terms.to_vec();
+    rising.sort_unstable();
+    let first = rising[0].1;
+    rising.iter().flat_map(|(row, digit)| [*row as u8, digit * first % 3]).collect()
+}
+
+/// Few rows of few columns, with ties of every sort: few digits other than 0 make them.
+pub fn small(random: &mut Random, height: usize, columns: usize) -> Rows {
+    let full = 3 + random.below(5);
+    let mut digit = || 2 - random.below(full).min(2) as u8;
+    (0..height).map(|_| (0..columns).map(|_| digit()).collect()).collect()
+}
+
 /// A tie among the rows of a row set: the number of the row that it changes, and that
 /// row's new bytes.
 pub fn tie_in_rows(random: &mut Random, shape: Shape, rows: &[u8]) -> (usize, Vec<u8>) {
@@ -167,7 +199,31 @@ pub fn stated_ties() -> Vec<(Shape, usize, Terms)> {
 
 /// The diagonal matrix with one of them.
 pub fn stated_matrix(shape: Shape, row: usize, terms: &[(usize, u8)]) -> Rows {
+    with_sums(shape, &[(row, terms)])
+}
+
+/// The diagonal matrix with rows made sums, one after the other.
+fn with_sums(shape: Shape, sums: &[(usize, &[(usize, u8)])]) -> Rows {
     let mut rows = diagonal(shape);
-    tie(&mut rows, row, terms);
+    sums.iter().for_each(|(row, terms)| tie(&mut rows, *row, terms));
     rows
+}
+
+/// Examples of W-205's list: matrices, and their lists of tied rows.
+pub fn stated_lists() -> Vec<(Shape, Rows, Vec<u8>)> {
+    let before_80: Terms = (0..80).map(|i| (i, 1)).collect();
+    let all = (0..80).flat_map(|i| [i, 1]).chain([80, 2]).collect();
+    let set_1 = |sums: &[(usize, &[(usize, u8)])], list| (SET_1, with_sums(SET_1, sums), list);
+    vec![
+        set_1(&[(5, &[(3, 2)])], vec![3, 1, 5, 1]),
+        set_1(&[(5, &[(3, 1)])], vec![3, 1, 5, 2]),
+        set_1(&[(7, &[(1, 1), (6, 2)])], vec![1, 1, 6, 2, 7, 2]),
+        // Row 1 is doubled before it is a term.
+        set_1(&[(1, &[(1, 2)]), (7, &[(1, 1), (6, 1)])], vec![1, 1, 6, 1, 7, 2]),
+        set_1(&[(80, &before_80)], all),
+        set_1(&[(4, &[])], vec![4, 1]),
+        set_1(&[(2, &[]), (5, &[(3, 1)])], vec![2, 1]),
+        (SET_2, with_sums(SET_2, &[(20, &[(0, 1)])]), vec![0, 1, 20, 2]),
+        (SET_3, with_sums(SET_3, &[(161, &[(0, 1), (160, 1)])]), vec![0, 1, 160, 1, 161, 2]),
+    ]
 }

@@ -16,6 +16,7 @@ pub mod numbers;
 pub mod pairing;
 pub mod program;
 pub mod shape;
+pub mod tied_rows;
 pub mod trits;
 pub mod unit;
 

@@ -1,5 +1,5 @@
-//! Compares the three calls of the matrix file with the reference, in each set:
-//! writer, reader and check, on fit, damaged, cut and random files.
+//! Compares the four calls of the matrix file with the reference, in each set: writer,
+//! reader, check and which rows are tied, on fit, damaged, cut and random files.
 
 mod interface;
 mod matrix_calls;

@@ -5,20 +5,20 @@ ghost use lib.ListN.{length};
 ghost use Rattle.linear_model.specs.Bits.{bitAt};
 ghost use Rattle.linear_model.specs.Internal.Planes.{tritOf};
 ghost use Rattle.elimination_model.specs.Internal.Words.{wordTrit, FitRow, FitRows, RowWritten, RowsWritten, ClearedWord, NonzeroColumn, Multiples, Entries, EntryWord, Table, Pivot, Turn, FirstTied};
-use crate::rows::add_row;
-use crate::rows::put_row;
+use elimination_rows::rows::add_row;
+use elimination_rows::rows::put_row;
 use linear_words::lanes::Trits;
 use linear_words::lanes::add;
 use linear_words::lanes::multiply;
 use linear_words::words::mask;
 
-// A table of three rows of eight words to a plane.
-const TABLE_WORDS: usize = 48;
+// A table of three rows of eleven words to a plane: eight, and three that carry the combination.
+const TABLE_WORDS: usize = 66;
 
 // A column: a word of each plane and a place in it.
-struct Column {
-    word: usize,
-    bit: u32,
+pub struct Column {
+    pub word: usize,
+    pub bit: u32,
 }
 
 // A bit of `x` that is set.
@@ -29,13 +29,14 @@ fn set_bit(x: u64) -> u32
     u64::trailing_zeros(x)
 }
 
-// A column in which the row from word `a` on is not 0; word `w` if there is none. It is the first, and nothing depends on that.
-fn nonzero_column(words: &[u64], a: usize, w: usize) -> Column
-    requires { ⌜ a + 2 * w ≤ length (now words) ⌝ }
-    ensures { λ r. ⌜ NonzeroColumn w (now (words .entry)) a (r .word) (r .bit) ⌝ }
+// A column of the first `f` words in which the row from word `a` on is not 0; word `f` if there is none. It is the first, and nothing
+// depends on that.
+fn nonzero_column(words: &[u64], a: usize, w: usize, f: usize) -> Column
+    requires { ⌜ (a + 2 * w ≤ length (now words)) × (f ≤ w) ⌝ }
+    ensures { λ r. ⌜ NonzeroColumn w f (now (words .entry)) a (r .word) (r .bit) ⌝ }
 {
     let mut m: usize = 0;
-    while m < w {
+    while m < f {
         let some = words[a + m] | words[a + w + m];
         if some != 0 {
             return Column {
@@ -45,11 +46,11 @@ fn nonzero_column(words: &[u64], a: usize, w: usize) -> Column
         }
         m += 1;
     }
-    Column { word: w, bit: 0 }
+    Column { word: f, bit: 0 }
 }
 
 // The digit of the row from word `a` on in a column.
-fn digit_in(words: &[u64], a: usize, w: usize, column: Column) -> usize
+pub fn digit_in(words: &[u64], a: usize, w: usize, column: Column) -> usize
     requires { ⌜ (a + 2 * w ≤ length (now words)) × (column .word < w) × (column .bit < 64) ⌝ }
     ensures { λ r. ⌜ r ≡ wordTrit w (now (words .entry)) a (column .word) (column .bit) ⌝ }
 {
@@ -156,8 +157,14 @@ fn clear_rows_by_size(
     if w == 4 {
         return clear_rows(words, table, 4, t, r, column);
     }
+    if w == 6 {
+        return clear_rows(words, table, 6, t, r, column);
+    }
     if w == 8 {
         return clear_rows(words, table, 8, t, r, column);
+    }
+    if w == 11 {
+        return clear_rows(words, table, 11, t, r, column);
     }
     clear_rows(words, table, w, t, r, column);
 }
@@ -174,16 +181,17 @@ fn take_turn(words: &mut [u64], table: &mut [u64], w: usize, t: usize, r: usize,
     clear_rows_by_size(words, table, w, t, r, column);
 }
 
-// The first of `t` rows that is tied to the rows before it; `t` if there is none. What is left in the words is not said.
-pub fn first_tied(words: &mut [u64], w: usize, t: usize) -> usize
-    requires { ⌜ (w ≤ 8) × FitRows w t (now words) ⌝ }
-    ensures { λ r. ⌜ FirstTied w t (now (words .entry)) r ⌝ }
+// The first of `t` rows that is tied to the rows before it in the columns of the first `f` words; `t` if there is none. What the rows carry
+// behind these words is added with them.
+pub fn first_tied(words: &mut [u64], w: usize, f: usize, t: usize) -> usize
+    requires { ⌜ (w ≤ 11) × (f ≤ w) × FitRows w t (now words) ⌝ }
+    ensures { λ r. ⌜ FirstTied w f t (now (words .entry)) (now (words .exit)) r ⌝ }
 {
     let mut table = [0u64; TABLE_WORDS];
     let mut r: usize = 0;
     while r < t {
-        let column = nonzero_column(words, 2 * w * r, w);
-        if w <= column.word {
+        let column = nonzero_column(words, 2 * w * r, w, f);
+        if f <= column.word {
             return r;
         }
         take_turn(words, &mut table, w, t, r, column);

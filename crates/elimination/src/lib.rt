@@ -1,3 +1,2 @@
-// Rows of digits modulo 3 in words, and whether they are tied. Rows are public: a branch or an index may depend on them.
+// Whether rows of digits modulo 3 are tied, by elimination. Rows are public: a branch or an index may depend on them.
 pub mod elimination;
-pub mod rows;

@@ -13,8 +13,9 @@ use Rattle.linear_model.specs.Tables.{sum, every, tabulate, below, oneAt}
 use Rattle.linear_model.proofs.Tables.{bool-ext, and-left, and-right, and-both, every-at, every-of, length-tabulate, getD-tabulate, small-tabulate, below-past, one-there, one-elsewhere}
 use Rattle.linear_model.proofs.Sums.{sum-ext, sum-zeros, sum-one}
 use Rattle.elimination_model.specs.Independence.{someChoice, digitOf, zeroAt, notAllZero, multiple, combined, zeroSum, ties, tied, AddsToZero, Tie, TieList, Independent}
+use Rattle.elimination_model.specs.Tie.{firstChoice}
 use Rattle.elimination_model.proofs.Multiples.{combined-congr}
-use Rattle.elimination_model.proofs.Choices.{some-found, found-some}
+use Rattle.elimination_model.proofs.Choices.{first-passes, found-some}
 
 -- ---- tests and facts
 
@@ -37,6 +38,14 @@ fails-somewhere (suc n) p h = go (fails-somewhere n p) (not-cases (every n p) (p
     go f (inl t) = let r = f t in (r .0, le-step (r .1), r .2)
     go f (inr t) = (n, le-refl (suc n), t)
 
+-- rows that add to zero by the test do so in each column
+pub zero-sum-adds : (n t : ℕ) (a : ℕ → ℕ → ℕ) (d : ℕ → ℕ) → T (zeroSum n t a d) → AddsToZero n t a d
+zero-sum-adds n t a d h j l = eqb→eq (combined t a d j) 0 (every-at n (zeroAt (combined t a d)) h j l)
+
+-- and the other way round
+pub adds-zero-sum : (n t : ℕ) (a : ℕ → ℕ → ℕ) (d : ℕ → ℕ) → AddsToZero n t a d → T (zeroSum n t a d)
+adds-zero-sum n t a d z = every-of n (zeroAt (combined t a d)) (λ j l. rw (eq-eqb (combined t a d j) 0 (z j l)) tt)
+
 -- ---- tied exactly if there is a choice
 
 -- a choice that ties, of any numbers that are not all 0 modulo 3
@@ -56,17 +65,18 @@ tie-of n t a d z i l h = (
 pub tied-list : (n t : ℕ) (a : ℕ → ℕ → ℕ) → tied n t a ≡ true → TieList n t a
 unfolding tied
 tied-list n t a e =
-    let p = some-found t (ties n t a) (rw e tt) in
-    let d : ℕ → ℕ = digitOf (p .digits) in
-    let w = fails-somewhere t (zeroAt d) (and-left (notAllZero t d) (zeroSum n t a d) (p .passes)) in (
-      p .digits,
-      p .choice .size,
+    let choice : List ℕ = firstChoice t (ties n t a) in
+    let p = first-passes t (ties n t a) (rw e tt) in
+    let d : ℕ → ℕ = digitOf choice in
+    let w = fails-somewhere t (zeroAt d) (and-left (notAllZero t d) (zeroSum n t a d) (p .1)) in (
+      choice,
+      p .0 .size,
       record {
-        small = p .choice .small;
+        small = p .0 .small;
         place = w .0;
         within = w .1;
         nonzero = λ q. T-not (eqb (d (w .0)) 0) (w .2) (rw (eq-eqb (d (w .0)) 0 q) tt);
-        adds = λ j l. eqb→eq (combined t a d j) 0 (every-at n (zeroAt (combined t a d)) (and-right (notAllZero t d) (zeroSum n t a d) (p .passes)) j l);
+        adds = zero-sum-adds n t a d (and-right (notAllZero t d) (zeroSum n t a d) (p .1));
       },
     )
 
@@ -94,9 +104,8 @@ tie-tied n t a x =
 
     adding : T (zeroSum n t a (digitOf list))
     adding =
-        every-of n (zeroAt (combined t a (digitOf list)))
-        (λ j l. rw (eq-eqb (combined t a (digitOf list) j) 0
-        (combined-congr t (digitOf list) (x .0) a a j (λ i k. ap (λ (v : ℕ). v % 3) (same i k)) (λ i _. refl) ∙ x .1 .adds j l)) tt)
+        adds-zero-sum n t a (digitOf list)
+        (λ j l. combined-congr t (digitOf list) (x .0) a a j (λ i k. ap (λ (v : ℕ). v % 3) (same i k)) (λ i _. refl) ∙ x .1 .adds j l)
 
 -- ---- tied or independent
 

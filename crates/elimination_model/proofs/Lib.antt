@@ -6,5 +6,11 @@ pub mod Independence
 pub mod RowOperations
 pub mod Elimination
 pub mod Packed
+pub mod Least
+pub mod Uniqueness
+pub mod TieDigits
+pub mod TieEntries
+pub mod Carried
+pub mod TieBytes
 -- Laws of rows in words, for proofs of functions.
 pub mod Internal

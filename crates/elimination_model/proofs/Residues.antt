@@ -48,3 +48,10 @@ times-zero x y p = times-congr x y x 0 refl p ∙ omega arith
 -- the same with the factors exchanged
 pub zero-times : (x y : ℕ) → x % 3 ≡ 0 → x * y % 3 ≡ 0
 zero-times x y p = times-congr x y 0 y p refl ∙ omega arith
+
+-- a factor other than 0 may be left out on both sides
+pub cancel : (x y z : ℕ) → x * z % 3 ≡ y * z % 3 → z % 3 ≢ 0 → x % 3 ≡ y % 3
+cancel x y z e h = omega (arith, times-congr (x * z) z (y * z) z e refl, twice x, twice y)
+  where
+    twice : (x : ℕ) → x * z * z % 3 ≡ x % 3
+    twice x = omega (arith, times-congr x (z * z) x 1 refl (square-one z h))

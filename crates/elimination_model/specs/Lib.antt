@@ -1,2 +1,3 @@
 pub mod Independence
+pub mod Tie
 pub mod Internal

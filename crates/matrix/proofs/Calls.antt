@@ -4,14 +4,14 @@ use mathlib.Core.List.{List}
 use mathlib.Core.Bool.{true, false}
 use Prim.Native.Nat.{ℕ}
 use native.Mathlib.Omega.{arith}
-use Rattle.numbers.specs.Number.{Condition, first, output}
+use Rattle.numbers.specs.Number.{Condition, first, output, reported}
 use Rattle.numbers.specs.Sets.{isSet, counted, numberIn}
-use Rattle.numbers.proofs.Sets.{each, counted-set, counted-is, own-number, other-number, number-none, number-of}
+use Rattle.numbers.proofs.Sets.{each, counted-set, counted-is, own-number, other-number, number-none, number-of, reported-none}
 use Rattle.matrix_model.specs.Block.{Layout}
 use Rattle.matrix_model.specs.File.{Fits, layoutOf}
-use Rattle.matrix_model.specs.Internal.Rows.{Eliminable}
+use Rattle.matrix_model.specs.Internal.Rows.{Eliminable, CarryingRoom}
 use Rattle.matrix_model.proofs.Layouts.{first-fits, second-fits, third-fits}
-use Rattle.matrix_model.proofs.Internal.TiedRows.{first-eliminable, second-eliminable, third-eliminable}
+use Rattle.matrix_model.proofs.Internal.TiedRows.{first-eliminable, second-eliminable, third-eliminable, first-carrying, second-carrying, third-carrying}
 
 -- the layout l that is counted for a number
 module _ (set : ℕ) {l : Layout} (e : l ≡ layoutOf (counted set)) where
@@ -20,6 +20,14 @@ module _ (set : ℕ) {l : Layout} (e : l ≡ layoutOf (counted set)) where
       subst (λ (l : Layout). Fits l × Eliminable l) (sym e)
       (each (λ set. Fits (layoutOf set) × Eliminable (layoutOf set)) (first-fits, first-eliminable) (second-fits, second-eliminable) (third-fits, third-eliminable) (counted set)
       (counted-set set))
+
+  pub counted-carrying : Fits l × Eliminable l × CarryingRoom l
+  counted-carrying =
+      let fits = counted-fits in (
+        fits .0,
+        fits .1,
+        subst CarryingRoom (sym e) (each (λ set. CarryingRoom (layoutOf set)) first-carrying second-carrying third-carrying (counted set) (counted-set set)),
+      )
 
   says : l .set ≡ counted set
   says = ap (λ (l : Layout). l .set) e
@@ -60,3 +68,21 @@ module _ (set : ℕ) {l : Layout} (e : l ≡ layoutOf (counted set)) where
       pub called-of-none : (l .set ≡ set → ⊥) → Called 14 old
       unfolding output
       called-of-none s = let number = number-of-none s in (number, (rw (sym number), λ z. absurd (omega arith)))
+
+    -- with a count too
+    module _ (bytes : Layout → List ℕ) (count : Layout → ℕ) (holds : Layout → ℕ → List ℕ → Type 0) (old : List ℕ) where
+      abbrev Reported : (r m : ℕ) (new : List ℕ) → Type 0
+      Reported r m new =
+          (r ≡ numberIn set (cs (layoutOf set)))
+          × ((m ≡ reported r (count (layoutOf set))) × ((new ≡ output r (bytes (layoutOf set)) old) × (r ≡ 0 → holds (layoutOf set) m new)))
+
+      pub reported-of-set : l .set ≡ set → {r m : ℕ} {new : List ℕ}
+          → (r ≡ first (cs l)) × ((m ≡ reported r (count l)) × ((new ≡ output r (bytes l) old) × (r ≡ 0 → holds l m new))) → Reported r m new
+      reported-of-set s {r} {m} {new} h =
+          let is = named-layout s in
+          (number-of-set s (h .0), (h .1 .0 ∙ (λ j. reported r (count (is j))), (h .1 .1 .0 ∙ (λ j. output r (bytes (is j)) old), λ z. subst (λ (l : Layout). holds l m new) is (h .1 .1 .1 z))))
+
+      pub reported-of-none : (l .set ≡ set → ⊥) → {r m : ℕ} → (r ≡ 14) × (m ≡ 0) → Reported r m old
+      reported-of-none s h =
+          let n = reported-none set (none-named s) (cs (layoutOf set)) (bytes (layoutOf set)) old (count (layoutOf set)) h in
+          (n .0, (n .1 .0, (n .1 .1, λ z. absurd (omega (arith, h .0)))))

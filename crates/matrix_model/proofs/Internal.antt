@@ -8,5 +8,6 @@ pub mod Blocks
 pub mod Rows
 pub mod RowNumbers
 pub mod TiedRows
+pub mod TieNumbers
 pub mod Digits
 pub mod Reading

@@ -11,4 +11,5 @@ pub mod Examples
 pub mod PackedRows
 pub mod Sample
 pub mod TieEvidence
+pub mod TiedRowsEvidence
 pub mod Internal

@@ -1,4 +1,4 @@
--- The numbers of a file's conditions rise, so check, reader and writer return the lowest.
+-- The numbers of a file's conditions rise, so check, reader, writer and the list of tied rows return the lowest.
 use Prim.Native.Nat.{ℕ}
 use mathlib.Core.List.{List}
 use lib.Dec.{lit≤}
@@ -7,6 +7,7 @@ use Rattle.numbers.proofs.Lowest.{rising-from, UpTo}
 use Rattle.numbers.specs.Sets.{LowestIn}
 use Rattle.matrix_model.specs.Block.{Layout}
 use Rattle.matrix_model.specs.File.{faultsOf, rowFaultsOf, checkConditionsOf, readConditionsOf, writeConditionsOf, layoutOf, checkNumber, readNumber, writeNumber}
+use Rattle.matrix_model.specs.Ties.{tieConditionsOf, tieNumber}
 use Rattle.numbers.proofs.Sets.{lowest-in}
 
 -- 8, 9, 10, 12
@@ -40,3 +41,8 @@ module _ (set : ℕ) where
   unfolding writeNumber
   write-lowest rows n =
       lowest-in set _ (lit≤ tt, (lit≤ tt, rising-from 1 10 (rowFaultsOf (layoutOf set) rows) (lit≤ tt) (row-faults-rise (layoutOf set) rows)))
+
+  -- 1, 1, 8, 9, 10, 16
+  pub tie-lowest : (file : List ℕ) (n : ℕ) → LowestIn set (tieConditionsOf (layoutOf set) file n) (tieNumber set file n)
+  unfolding tieNumber
+  tie-lowest file n = lowest-in set _ (lit≤ tt, (lit≤ tt, (lit≤ tt, (lit≤ tt, (lit≤ tt, (lit≤ tt, tt))))))

@@ -1,4 +1,4 @@
--- Laws of rows of given trits: these are their trits, they are fit where each trit is, and tied where the trits are.
+-- Laws of rows of given trits: these are their trits, they are fit where each trit is, tied where the trits are, and then by the same tie.
 use Prim.Native.Nat.{ℕ, _+_, _*_, _/_, _%_, _<_}
 use mathlib.Core.Path.{_≡_, ap, ap₂, _∙_}
 use mathlib.Core.Bool.{true, false, not}
@@ -13,12 +13,15 @@ use Rattle.linear_model.specs.Products.{rowsFrom}
 use Rattle.linear_model.proofs.Tables.{length-tabulate, getD-tabulate}
 use Rattle.linear_model.proofs.Vectors.{trit-pack}
 use Rattle.elimination_model.specs.Independence.{tied, tritAt}
+use Rattle.elimination_model.specs.Tie.{tieBytes}
 use Rattle.elimination_model.proofs.Independence.{tied-congr}
+use Rattle.elimination_model.proofs.TieBytes.{tie-bytes-congr}
 use Rattle.numbers.specs.Number.{first}
 use Rattle.numbers.proofs.Numbers.{first-pass, first-holds}
 use Rattle.matrix_model.specs.Block.{Layout}
 use Rattle.matrix_model.specs.File.{rowsSize, rowPlaneOf, fitRow, badTritOf, tiedRowsOf, rowFaultsOf}
 use Rattle.matrix_model.specs.Sample.{packedByte, packedRows}
+use Rattle.matrix_model.specs.Ties.{tieOf}
 use Rattle.matrix_model.proofs.Tests.{every-true}
 use Rattle.matrix_model.proofs.Layouts.{part-of, place-of}
 
@@ -59,12 +62,21 @@ module _ (layout : Layout) (two-planes : layout .rowBytes % 2 ≡ 0) (f : ℕ �
       (λ i l. every-true (8 * rowPlaneOf layout) (fitTrit (rowPlaneOf layout) (rowsFrom (rowPlaneOf layout) (packedRows layout f) i))
       (λ j m. lt-ltb (tritAt (rowPlaneOf layout) (packedRows layout f) i j) 3 (rw (packed-trit i l j m) (small i j)))))
 
+  -- modulo 3 they are the trits
+  packed-digits : (i j : ℕ) → i < layout .rowCount → j < 8 * rowPlaneOf layout → tritAt (rowPlaneOf layout) (packedRows layout f) i j % 3 ≡ f i j % 3
+  packed-digits i j l m = ap (λ (x : ℕ). x % 3) (packed-trit i l j m)
+
   -- the rows are tied where the trits are
   pub packed-tied : tiedRowsOf layout (packedRows layout f) ≡ tied (8 * rowPlaneOf layout) (layout .rowCount) f
   unfolding tiedRowsOf
   packed-tied =
-      tied-congr (8 * rowPlaneOf layout) (layout .rowCount) (tritAt (rowPlaneOf layout) (packedRows layout f)) f
-      (λ i j l m. ap (λ (x : ℕ). x % 3) (packed-trit i l j m))
+      tied-congr (8 * rowPlaneOf layout) (layout .rowCount) (tritAt (rowPlaneOf layout) (packedRows layout f)) f packed-digits
+
+  -- and their tie is that of the trits
+  pub packed-tie : tieOf layout (packedRows layout f) ≡ tieBytes (8 * rowPlaneOf layout) (layout .rowCount) f
+  unfolding tieOf
+  packed-tie =
+      tie-bytes-congr (8 * rowPlaneOf layout) (layout .rowCount) (tritAt (rowPlaneOf layout) (packedRows layout f)) f packed-digits
 
   -- tied, they have number 12
   pub packed-refused : tied (8 * rowPlaneOf layout) (layout .rowCount) f ≡ true → first (rowFaultsOf layout (packedRows layout f)) ≡ 12

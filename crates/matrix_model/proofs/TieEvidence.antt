@@ -48,7 +48,7 @@ combination-tied n t r a d l z e = tie-tied n t a (tie-of n t a digits adds r l 
     nonzero q = let s : digits r ≡ 1 = ap₂ (λ (x y : ℕ). x + 2 * y) (one-there r) z in omega arith
 
 -- in column k the rows of the diagonal, so multiplied, add to digit k
-diagonal-combined : (t : ℕ) (d : ℕ → ℕ) → ((j : ℕ) → t ≤ j → d j ≡ 0) → (k : ℕ) → sum t (multiple oneAt d k) ≡ d k
+pub diagonal-combined : (t : ℕ) (d : ℕ → ℕ) → ((j : ℕ) → t ≤ j → d j ≡ 0) → (k : ℕ) → sum t (multiple oneAt d k) ≡ d k
 diagonal-combined t d w k = go (decLt k t)
   where
     off : (i : ℕ) → i ≢ k → d i * oneAt i k ≡ 0
@@ -68,20 +68,26 @@ one-column = tie-tied 1 2 oneAt (zero-row-tie 1 2 oneAt 1 (lit< tt) at)
 
 -- ---- packed rows
 
-with-row-small : (r : ℕ) (row : ℕ → ℕ) → ((j : ℕ) → row j < 3) → (i j : ℕ) → withRow r row i j < 3
+-- the diagonal with another row r has small digits, if this row has
+pub with-row-small : (r : ℕ) (row : ℕ → ℕ) → ((j : ℕ) → row j < 3) → (i j : ℕ) → withRow r row i j < 3
 with-row-small r row h i j = go (eqb i r)
   where
     go : (b : Bool) → cond b (row j) (oneAt i j) < 3
     go true = h j
     go false = one-at-small i j
 
+-- row r is this row
+pub with-row-own : (r : ℕ) (row : ℕ → ℕ) (j : ℕ) → withRow r row r j ≡ row j
+with-row-own r row j = ap (λ (b : Bool). cond b (row j) (oneAt r j)) (eq-eqb r r refl)
+
+-- the others are the diagonal's
+pub with-row-other : (r : ℕ) (row : ℕ → ℕ) (i j : ℕ) → i ≢ r → withRow r row i j ≡ oneAt i j
+with-row-other r row i j h = ap (λ (b : Bool). cond b (row j) (oneAt i j)) (ne-eqb i r h)
+
 -- the diagonal with a combination of the other rows in place of row r is tied
 with-row-tied : (n t r : ℕ) (d : ℕ → ℕ) → r < t → Combination t r d → tied n t (withRow r d) ≡ true
-with-row-tied n t r d l c = combination-tied n t r (withRow r d) d l (c .others) (λ k _. ap (λ (x : ℕ). x % 3) (own k ∙ sym (total k)))
+with-row-tied n t r d l c = combination-tied n t r (withRow r d) d l (c .others) (λ k _. ap (λ (x : ℕ). x % 3) (with-row-own r d k ∙ sym (total k)))
   where
-    own : (k : ℕ) → withRow r d r k ≡ d k
-    own k = ap (λ (b : Bool). cond b (d k) (oneAt r k)) (eq-eqb r r refl)
-
     -- row r counts for nothing, since its digit is 0
     same : (k i : ℕ) → multiple (withRow r d) d k i ≡ multiple oneAt d k i
     same k i = go (ℕ-discrete i r)
@@ -91,7 +97,7 @@ with-row-tied n t r d l c = combination-tied n t r (withRow r d) d l (c .others)
 
         go : Dec (i ≡ r) → d i * withRow r d i k ≡ d i * oneAt i k
         go (yes e) = none (withRow r d i k) (ap d e ∙ c .others) ∙ sym (none (oneAt i k) (ap d e ∙ c .others))
-        go (no h) = ap (λ (b : Bool). d i * cond b (d k) (oneAt i k)) (ne-eqb i r h)
+        go (no h) = ap (λ (x : ℕ). d i * x) (with-row-other r d i k h)
 
     total : (k : ℕ) → sum t (multiple (withRow r d) d k) ≡ d k
     total k = sum-ext t (multiple (withRow r d) d k) (multiple oneAt d k) (λ i _. same k i) ∙ diagonal-combined t d (c .within) k
@@ -101,15 +107,17 @@ tied-row : (layout : Layout) → layout .rowBytes % 2 ≡ 0 → TiedRow layout
 tied-row layout e r d l c =
     packed-refused layout e (withRow r d) (with-row-small r d (c .small)) (with-row-tied (8 * rowPlaneOf layout) (layout .rowCount) r d l c)
 
-row-three : (c : ℕ) → c < 3 → Combination 81 5 (timesRowThree c)
-row-three c l = record { small = λ j. small (eqb 3 j); others = mul-zero c; within = λ j h. ap (λ (x : ℕ). c * x) (one-elsewhere 3 j (omega arith)) ∙ mul-zero c }
+-- a multiple of row 3 is a combination of the rows but row 5
+pub row-three : (t c : ℕ) → 3 < t → c < 3 → Combination t 5 (timesRowThree c)
+row-three t c h l = record { small = λ j. small (eqb 3 j); others = mul-zero c; within = λ j u. ap (λ (x : ℕ). c * x) (one-elsewhere 3 j (omega arith)) ∙ mul-zero c }
   where
     small : (b : Bool) → c * cond b 1 0 < 3
     small true = omega arith
     small false = omega arith
 
-all-before : Combination 81 80 sumBefore
-all-before = record { small = λ j. one-small (ltb j 80); others = refl; within = λ j h. ap (λ (b : Bool). cond b 1 0) (le-ltb j 80 (omega arith)) }
+-- the sum of rows 0 to 79 is one of the rows but row 80
+pub all-before : (t : ℕ) → 80 ≤ t → Combination t 80 sumBefore
+all-before t h = record { small = λ j. one-small (ltb j 80); others = refl; within = λ j u. ap (λ (b : Bool). cond b 1 0) (le-ltb j 80 (omega arith)) }
 
 -- a row with a trit other than 0 is no zero row
 not-zero : (m : ℕ) (v : List ℕ) (j : ℕ) → j < 8 * m → trit m v j ≢ 0 → zeroTrits m 0 v ≡ false
@@ -127,13 +135,13 @@ no-zero-row i l = go (ℕ-discrete i 5)
     f = withRow 5 (timesRowThree 2)
 
     trits : (j : ℕ) → j < 256 → trit 32 (rowsFrom 32 (rowFiveTied 2) i) j ≡ f i j
-    trits = packed-trit matrixB refl f (with-row-small 5 (timesRowThree 2) (row-three 2 (lit< tt) .small)) i l
+    trits = packed-trit matrixB refl f (with-row-small 5 (timesRowThree 2) (row-three 81 2 (lit< tt) (lit< tt) .small)) i l
 
     go : Dec (i ≡ 5) → zeroTrits 32 0 (rowsFrom 32 (rowFiveTied 2) i) ≡ false
     go (yes e) = not-zero 32 (rowsFrom 32 (rowFiveTied 2) i) 3 (lit< tt) (λ z. omega (arith, sym (trits 3 (lit< tt) ∙ ap (λ (r : ℕ). f r 3) e) ∙ z))
     go (no n) =
         not-zero 32 (rowsFrom 32 (rowFiveTied 2) i) i (omega arith)
-        (λ z. omega (arith, sym (trits i (omega arith) ∙ ap (λ (b : Bool). cond b (timesRowThree 2 i) (oneAt i i)) (ne-eqb i 5 n) ∙ one-there i) ∙ z))
+        (λ z. omega (arith, sym (trits i (omega arith) ∙ with-row-other 5 (timesRowThree 2) i i n ∙ one-there i) ∙ z))
 
 pub tie-evidence : TieEvidence
 tie-evidence =
@@ -148,9 +156,9 @@ tie-evidence =
       tied1 = tied-row (layoutOf 1) refl;
       tied2 = tied-row (layoutOf 2) refl;
       tied3 = tied-row (layoutOf 3) refl;
-      once = tied-row matrixB refl 5 (timesRowThree 1) (lit< tt) (row-three 1 (lit< tt));
-      twice = tied-row matrixB refl 5 (timesRowThree 2) (lit< tt) (row-three 2 (lit< tt));
-      sumOfAll = tied-row matrixB refl 80 sumBefore (lit< tt) all-before;
+      once = tied-row matrixB refl 5 (timesRowThree 1) (lit< tt) (row-three 81 1 (lit< tt) (lit< tt));
+      twice = tied-row matrixB refl 5 (timesRowThree 2) (lit< tt) (row-three 81 2 (lit< tt) (lit< tt));
+      sumOfAll = tied-row matrixB refl 80 sumBefore (lit< tt) (all-before 81 (lit≤ tt));
       noZeroRow = no-zero-row;
       moreRows = tied-more;
       firstColumns = tied-narrower;

@@ -4,12 +4,13 @@ ghost use mathlib.Core.Path.{_≡_};
 ghost use mathlib.Core.Bool.{not};
 ghost use lib.ListN.{length};
 ghost use Rattle.numbers.specs.Number.{first};
+ghost use Rattle.elimination_model.specs.Independence.{tritAt};
 ghost use Rattle.elimination_model.specs.Internal.Words.{RowsWritten, LoadedWord};
 ghost use Rattle.matrix_model.specs.File.{Fits, rowPlaneOf, tiedRowsOf, rowFaultsOf};
 ghost use Rattle.matrix_model.specs.Internal.Rows.{rowsHeld, heldBytes, Eliminable, Loadable, tiedInColumns};
 ghost use Rattle.matrix_blocks.specs.Layouts.{layoutIn};
 use elimination::elimination::first_tied;
-use elimination::rows::load_rows_by_size;
+use elimination_rows::loading::load_rows_by_size;
 use linear_words::bytes::least;
 use matrix_blocks::counts::block_count;
 use matrix_blocks::counts::rows_in;
@@ -32,11 +33,11 @@ const WORDS_2: usize = BITS_2 / 32 * DIGITS_2;
 
 const WORDS_3: usize = BITS_3 / 32 * DIGITS_3;
 
-// Loads the first `v` words of each plane of all rows, block by block.
-fn load(layout: Layout, s: &[u8], in_blocks: bool, v: usize, words: &mut [u64])
-    requires { ⌜ Loadable (layoutIn layout) «in_blocks» (now s) v (length (now words)) ⌝ }
+// Loads the first `f` words of each plane of all rows, block by block, to rows of `w` words to a plane.
+pub fn load(layout: Layout, s: &[u8], in_blocks: bool, w: usize, f: usize, words: &mut [u64])
+    requires { ⌜ Loadable (layoutIn layout) «in_blocks» (now s) w f (length (now words)) ⌝ }
     ensures { λ _. ⌜
-        RowsWritten v 0 (layoutIn layout .rowCount) (LoadedWord (rowPlaneOf (layoutIn layout)) (rowsHeld (layoutIn layout) «in_blocks» (now (s .entry))))
+        RowsWritten w 0 (layoutIn layout .rowCount) (LoadedWord f (tritAt (rowPlaneOf (layoutIn layout)) (rowsHeld (layoutIn layout) «in_blocks» (now (s .entry)))))
         (now (words .entry)) (now (words .exit))
         ⌝ }
 {
@@ -50,7 +51,8 @@ fn load(layout: Layout, s: &[u8], in_blocks: bool, v: usize, words: &mut [u64])
             bytes,
             rows_in(layout, b),
             words,
-            v,
+            w,
+            f,
             layout.block_rows * b,
         );
         b += 1;
@@ -59,17 +61,17 @@ fn load(layout: Layout, s: &[u8], in_blocks: bool, v: usize, words: &mut [u64])
 
 // Whether the rows are tied in the columns of their first `v` words. What is left in the words is not said.
 fn tied_in(layout: Layout, s: &[u8], in_blocks: bool, v: usize, words: &mut [u64]) -> bool
-    requires { ⌜ Loadable (layoutIn layout) «in_blocks» (now s) v (length (now words)) ⌝ }
+    requires { ⌜ Loadable (layoutIn layout) «in_blocks» (now s) v v (length (now words)) ⌝ }
     ensures { λ r. ⌜ r ≡ tiedInColumns (layoutIn layout) v (rowsHeld (layoutIn layout) «in_blocks» (now (s .entry))) ⌝ }
 {
-    load(layout, s, in_blocks, v, words);
-    first_tied(words, v, layout.row_count) < layout.row_count
+    load(layout, s, in_blocks, v, v, words);
+    first_tied(words, v, v, layout.row_count) < layout.row_count
 }
 
 // The same, in words of its own, as many as the rows of set 1 have. There is such a function for each set and not one with three arrays:
 // arrays of different functions get one place in a caller's frame, those of one function a place each.
 fn tied_in_words_1(layout: Layout, s: &[u8], in_blocks: bool, v: usize) -> bool
-    requires { ⌜ Loadable (layoutIn layout) «in_blocks» (now s) v 648 ⌝ }
+    requires { ⌜ Loadable (layoutIn layout) «in_blocks» (now s) v v 648 ⌝ }
     ensures { λ r. ⌜ r ≡ tiedInColumns (layoutIn layout) v (rowsHeld (layoutIn layout) «in_blocks» (now (s .entry))) ⌝ }
 {
     let mut words = [0u64; WORDS_1];
@@ -78,7 +80,7 @@ fn tied_in_words_1(layout: Layout, s: &[u8], in_blocks: bool, v: usize) -> bool
 
 // The same, for set 2.
 fn tied_in_words_2(layout: Layout, s: &[u8], in_blocks: bool, v: usize) -> bool
-    requires { ⌜ Loadable (layoutIn layout) «in_blocks» (now s) v 42 ⌝ }
+    requires { ⌜ Loadable (layoutIn layout) «in_blocks» (now s) v v 42 ⌝ }
     ensures { λ r. ⌜ r ≡ tiedInColumns (layoutIn layout) v (rowsHeld (layoutIn layout) «in_blocks» (now (s .entry))) ⌝ }
 {
     let mut words = [0u64; WORDS_2];
@@ -87,7 +89,7 @@ fn tied_in_words_2(layout: Layout, s: &[u8], in_blocks: bool, v: usize) -> bool
 
 // The same, for set 3.
 fn tied_in_words_3(layout: Layout, s: &[u8], in_blocks: bool, v: usize) -> bool
-    requires { ⌜ Loadable (layoutIn layout) «in_blocks» (now s) v 2592 ⌝ }
+    requires { ⌜ Loadable (layoutIn layout) «in_blocks» (now s) v v 2592 ⌝ }
     ensures { λ r. ⌜ r ≡ tiedInColumns (layoutIn layout) v (rowsHeld (layoutIn layout) «in_blocks» (now (s .entry))) ⌝ }
 {
     let mut words = [0u64; WORDS_3];
@@ -96,7 +98,7 @@ fn tied_in_words_3(layout: Layout, s: &[u8], in_blocks: bool, v: usize) -> bool
 
 // The same, in the fewest words that are enough.
 fn tied_in_columns(layout: Layout, s: &[u8], in_blocks: bool, v: usize) -> bool
-    requires { ⌜ Loadable (layoutIn layout) «in_blocks» (now s) v 2592 ⌝ }
+    requires { ⌜ Loadable (layoutIn layout) «in_blocks» (now s) v v 2592 ⌝ }
     ensures { λ r. ⌜ r ≡ tiedInColumns (layoutIn layout) v (rowsHeld (layoutIn layout) «in_blocks» (now (s .entry))) ⌝ }
 {
     let n = 2 * v * layout.row_count;

@@ -45,3 +45,6 @@ pub const NO_SET: u32 = 14;
 
 // A frame of another line than the unit's; in join, the two differ.
 pub const OTHER_LINE: u32 = 15;
+
+// The rows of a file whose tied rows are asked for are not tied.
+pub const NOT_TIED: u32 = 16;

@@ -6,6 +6,7 @@ use Rattle.numbers.specs.Number.{Condition}
 use Rattle.numbers.specs.Lowest.{Lowest}
 use Rattle.numbers.specs.Sets.{numberIn, LowestIn}
 use Rattle.matrix_model.specs.File.{checkConditionsOf, readConditionsOf, writeConditionsOf, layoutOf, checkNumber, readNumber, writeNumber}
+use Rattle.matrix_model.specs.Ties.{tieConditionsOf, tieNumber}
 use Rattle.pair_model.specs.Scheme.{Files}
 use Rattle.pair_model.specs.Base.{schemeOf}
 use Rattle.pair_model.specs.Frame.{Parameters}
@@ -37,9 +38,10 @@ pub record LowestNumbers : Type 0 where
   pub steps-slice : (s f : List ℕ) (lent : Files) (n : ℕ) → Lowest (pairStepConditions s f lent n) (pairStepNumber s f lent n)
   -- the counter's join
   pub joins : (set : ℕ) (f g : List ℕ) (n : ℕ) → NamedLowest set (joinConditions (schemeOf set) f g n)
-  -- the matrix file: writer, reader and check
+  -- the matrix file: writer, reader, check and list of tied rows
   pub writes : (set : ℕ) (rows : List ℕ) (n : ℕ) → LowestIn set (writeConditionsOf (layoutOf set) rows n) (writeNumber set rows n)
   pub reads : (set : ℕ) (file : List ℕ) (n : ℕ) → LowestIn set (readConditionsOf (layoutOf set) file n) (readNumber set file n)
   pub checks : (set : ℕ) (file : List ℕ) → LowestIn set (checkConditionsOf (layoutOf set) file) (checkNumber set file)
+  pub lists : (set : ℕ) (file : List ℕ) (n : ℕ) → LowestIn set (tieConditionsOf (layoutOf set) file n) (tieNumber set file n)
   -- the whole run, one call that reads all its input
   pub runs : (input : List ℕ) (n : ℕ) → Lowest (runConditions input n) (runNumber input n)

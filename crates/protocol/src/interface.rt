@@ -1,11 +1,15 @@
 // The C interface but for the units: each function is total over slices, answers a number of the table, and neither allocates nor
 // keeps a pointer. All but `pair_run` name a set.
 ghost use mathlib.Core.Path.{_≡_};
-ghost use lib.ListN.{length};
+ghost use Prim.Native.Nat.{_*_};
+ghost use lib.ListN.{length, take};
 ghost use Rattle.numbers.specs.Number.{output, reported};
 ghost use Rattle.numbers.specs.Sets.{numberIn};
 ghost use Rattle.source_model.specs.Disjoint.{DisjointDraws};
-ghost use Rattle.matrix_model.specs.File.{checkNumber, readNumber, writeNumber, readOutput, writeOutput};
+ghost use Rattle.elimination_model.specs.Tie.{entryCount};
+ghost use Rattle.matrix_model.specs.File.{layoutOf, checkNumber, readNumber, writeNumber, readOutput, writeOutput};
+ghost use Rattle.matrix_model.specs.Ties.{tieOfFile, OnlyTieOfFile, tieNumber};
+ghost use Rattle.matrix_model.specs.TiedRowsEvidence.{TiedRowsEvidence};
 ghost use Rattle.pair_model.specs.Scheme.{files, noFiles};
 ghost use Rattle.pair_model.specs.Base.{schemeOf, InEachSet, base};
 ghost use Rattle.pair_model.specs.Frame.{sharedParameters};
@@ -19,6 +23,7 @@ ghost use Rattle.pair_model.specs.WholeRun.{runNumber, runCode};
 use matrix::file::matrix_check;
 use matrix::file::matrix_read;
 use matrix::file::matrix_write;
+use matrix::ties::matrix_tied_rows;
 use pair_counter::evaluator::evaluate;
 use pair_counter::join::join;
 use pair_dealer::dealer::deal;
@@ -50,6 +55,20 @@ pub extern "C" fn pair_matrix_read(set: u32, file: &[u8], out: &mut [u8]) -> u32
     ensures output { λ _. ⌜ now (out .exit) ≡ readOutput set (now (file .entry)) (now (out .entry)) ⌝ }
 {
     matrix_read(set, file, out)
+}
+
+// The list of the rows of a file that are tied, each with its digit, and how many they are.
+#[no_mangle]
+pub extern "C" fn pair_tied_rows(set: u32, file: &[u8], out: &mut [u8], count: &mut u64) -> u32
+    ensures result { λ r. ⌜ r ≡ tieNumber set (now (file .entry)) (length (now (out .entry))) ⌝ }
+    ensures count { λ r. ⌜ now (count .exit) ≡ reported r (entryCount (tieOfFile (layoutOf set) (now (file .entry)))) ⌝ }
+    ensures output { λ r. ⌜ now (out .exit) ≡ output r (tieOfFile (layoutOf set) (now (file .entry))) (now (out .entry)) ⌝ }
+    ensures only_tie { λ r. ⌜ (r ≡ 0 → OnlyTieOfFile (layoutOf set) (now (file .entry)) (take (2 * now (count .exit)) (now (out .exit)))) ⌝ }
+    ensures evidence { λ _. ⌜ TiedRowsEvidence ⌝ }
+{
+    let tied = matrix_tied_rows(set, file, out);
+    *count = tied.count;
+    tied.result
 }
 
 // The code of a key and a label.

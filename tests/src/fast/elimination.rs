@@ -1,17 +1,20 @@
-//! Whether rows are tied. Each row in turn is cleared out of those after it, so
-//! that they have 0 in its first column that is not 0; a row that is all 0 when its
-//! turn comes is tied to rows before it. A matrix is public, so it may be branched on.
+//! Whether rows are tied, and which. Each row in turn is cleared out of those after
+//! it, so that they have 0 in its first column that is not 0; a row that is all 0 when
+//! its turn comes is tied to rows before it. Where each row carries its row of the
+//! diagonal behind its front, what this has become by then are the digits of the tie. A
+//! matrix is public, so it may be branched on.
 
 use super::matrix::row_place;
-use super::words;
+use super::word;
 
-/// The first V words of each plane of a row. Aligned, so that no row and no entry of
-/// a table lies in two lines of the cache where it fits into one.
+/// V words of each plane of a row: first words of it, or all and what it carries behind
+/// them. Aligned, so that no row and no entry of a table lies in two lines of the cache
+/// where it fits into one.
 #[derive(Clone, Copy)]
 #[repr(align(32))]
-struct Row<const V: usize> {
-    low: [u64; V],
-    high: [u64; V],
+pub(super) struct Row<const V: usize> {
+    pub(super) low: [u64; V],
+    pub(super) high: [u64; V],
 }
 
 impl<const V: usize> Row<V> {
@@ -19,7 +22,7 @@ impl<const V: usize> Row<V> {
 
     /// A digit with its bits in the other order is its negative.
     #[inline(always)]
-    fn negative(self) -> Row<V> {
+    pub(super) fn negative(self) -> Row<V> {
         Row { low: self.high, high: self.low }
     }
 
@@ -33,10 +36,10 @@ impl<const V: usize> Row<V> {
         }
     }
 
-    /// Word and bit of the first column that is not 0.
+    /// Word and bit of the first column that is not 0, from a word on and before another.
     #[inline(always)]
-    fn first(&self) -> Option<(usize, u32)> {
-        for k in 0..V {
+    pub(super) fn first(&self, from: usize, to: usize) -> Option<(usize, u32)> {
+        for k in from..to {
             let nonzero = self.low[k] | self.high[k];
             if nonzero != 0 {
                 return Some((k, nonzero.trailing_zeros()));
@@ -47,7 +50,7 @@ impl<const V: usize> Row<V> {
 
     /// The low and the high bit of a digit.
     #[inline(always)]
-    fn digit(&self, word: usize, bit: u32) -> [u64; 2] {
+    pub(super) fn digit(&self, word: usize, bit: u32) -> [u64; 2] {
         [self.low[word] >> bit & 1, self.high[word] >> bit & 1]
     }
 
@@ -88,16 +91,17 @@ impl<const V: usize> Row<V> {
     }
 }
 
-/// Whether rows are tied in the columns that they have, which are more than the rows.
+/// The first row that is tied to rows before it in the columns of its front, F words to
+/// a plane, which are more than the rows.
 #[inline(never)]
-fn tied<const V: usize>(rows: &mut [Row<V>]) -> bool {
+pub(super) fn first_tied<const V: usize, const F: usize>(rows: &mut [Row<V>]) -> Option<&Row<V>> {
     // The columns that are cleared, and how many first words of them are so whole: there
     // all later rows have zeros.
     let (mut cleared, mut from) = ([0u64; V], 0);
     for r in 0..rows.len() {
         let (done, later) = rows.split_at_mut(r + 1);
-        let Some((word, bit)) = done[r].first() else {
-            return true;
+        let Some((word, bit)) = done[r].first(0, F) else {
+            return Some(&rows[r]);
         };
         let row = done[r].with_digit_2(word, bit);
         match (V, from) {
@@ -106,24 +110,38 @@ fn tied<const V: usize>(rows: &mut [Row<V>]) -> bool {
             (_, 1) => row.add_by_table::<1>(word, bit, later),
             _ => row.add_by_table::<2>(word, bit, later),
         }
-        // Of two words too few rows are left by then.
-        if V > 2 {
+        // Of two words too few rows are left by then, and where words are carried behind
+        // the front it saves nothing.
+        if V == F && F > 2 {
             cleared[word] |= 1 << bit;
             from += usize::from(cleared[from] == u64::MAX);
         }
     }
-    false
+    None
 }
 
-/// The first V words of each plane of the D rows of a file, whose planes have W.
+/// V words of each plane of the D rows of a file, whose planes have W: the first ones,
+/// or all, and behind them a 1 in the column of the row's number.
 #[inline(always)]
-fn gathered<const W: usize, const V: usize, const D: usize>(file: &[u8]) -> [Row<V>; D] {
+pub(super) fn gathered<const W: usize, const V: usize, const D: usize>(file: &[u8]) -> [Row<V>; D] {
     let mut rows = [Row::ZERO; D];
     for (i, row) in rows.iter_mut().enumerate() {
         let at = row_place::<W>(i);
-        *row = Row { low: words(file, at), high: words(file, at + 8 * W) };
+        for k in 0..W.min(V) {
+            row.low[k] = word(file, at + 8 * k);
+            row.high[k] = word(file, at + 8 * (W + k));
+        }
+        if V > W {
+            row.low[W + i / 64] = 1 << (i % 64);
+        }
     }
     rows
+}
+
+/// Whether rows are tied in their V words.
+#[inline(always)]
+fn tied<const V: usize>(rows: &mut [Row<V>]) -> bool {
+    first_tied::<V, V>(rows).is_some()
 }
 
 /// Whether the rows of a file are tied. Nearly all that are not tied are not so in

@@ -139,9 +139,10 @@ impl Faults {
     }
 }
 
-/// The number of a file of the set's length, each of whose rows is visited.
+/// The number of a file of the set's length, each of whose rows is visited, but for
+/// rows that are tied and none of them zero.
 #[inline(always)]
-fn pass<const W: usize>(file: &[u8], visit: &mut impl Visit<W>) -> u32 {
+fn judged<const W: usize>(file: &[u8], visit: &mut impl Visit<W>) -> u32 {
     let file = &file[..shape(W).file_bytes()];
     let mut faults = Faults::default();
     let last = shape(W).blocks() - 1;
@@ -151,10 +152,22 @@ fn pass<const W: usize>(file: &[u8], visit: &mut impl Visit<W>) -> u32 {
     }
     let rows = shape(W).rows_in_block(last);
     faults.judge(part(file, BLOCK_BYTES * last), last, rows, visit);
-    match faults.number() {
+    faults.number()
+}
+
+/// The number of a file of the set's length, each of whose rows is visited.
+#[inline(always)]
+fn pass<const W: usize>(file: &[u8], visit: &mut impl Visit<W>) -> u32 {
+    match judged(file, visit) {
         0 if rows_are_tied::<W>(file) => TIED_ROWS,
         number => number,
     }
+}
+
+/// The lowest of a file's numbers before 12; 0 or 12 where it has none of them.
+#[inline(always)]
+pub(super) fn number_before_ties<const W: usize>(file: &[u8]) -> u32 {
+    judged::<W>(file, &mut ())
 }
 
 /// The number of a file, and its rows times a vector.

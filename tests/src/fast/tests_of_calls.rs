@@ -1,7 +1,7 @@
 //! The fast calls give the reference's numbers, counts, states and bytes, on
 //! fit, short, long and damaged inputs.
 
-use super::{dealer, evaluator, join, matrix, run, sampler, unit};
+use super::{dealer, evaluator, join, matrix, run, sampler, tied_rows, unit};
 use crate::guarded::{compare, compare_counted};
 use crate::random::{report, seed, Random};
 use crate::reference;
@@ -55,7 +55,7 @@ fn any_string(random: &mut Random, shape: Shape) -> Vec<u8> {
 }
 
 #[test]
-fn the_fast_check_gives_the_reference() {
+fn the_fast_check_and_list_give_the_reference() {
     let mut random = Random::for_test("fast check");
     let count = 600;
     for (trial, shape) in (0..count).flat_map(|trial| SETS.map(|shape| (trial, shape))) {
@@ -73,8 +73,15 @@ fn the_fast_check_gives_the_reference() {
         let check = |shape| Answer::refused(reference::matrix::matrix_check(shape, &file));
         let expected = with_set(set, check).number;
         assert_eq!(matrix::matrix_check(set, &file), expected, "SEED={}", seed());
+
+        let room = nearly(&mut random, shape.tie_bytes());
+        let tie = |shape| reference::tied_rows::tied_rows(shape, &file, room);
+        let (name, expected) = ("tied rows", with_set(set, tie));
+        compare_counted(&mut random, name, [&file], room, &expected, |[file], out, count| {
+            tied_rows::tied_rows(set, file, out, count)
+        });
     }
-    report("fast: matrix check", SETS.len() * count);
+    report("fast: matrix check and lists of tied rows", SETS.len() * count);
 }
 
 #[test]

@@ -13,6 +13,13 @@ fn sum(a: u8, b: u8) -> u8 {
     }
 }
 
+/// Adds digits to others, place by place.
+pub(super) fn add(digits: &mut [u8], others: &[u8]) {
+    for (digit, other) in digits.iter_mut().zip(others) {
+        *digit = sum(*digit, *other);
+    }
+}
+
 /// The rank of rows of digits, all of one length, by elimination: column by
 /// column, a row with a digit there is brought up, and so often added to the rows
 /// below it that they have 0 there.
@@ -28,9 +35,7 @@ pub fn rank(mut rows: Vec<Vec<u8>>) -> usize {
         let brought = &above[done];
         for row in below {
             while row[column] != 0 {
-                for (digit, other) in row.iter_mut().zip(brought) {
-                    *digit = sum(*digit, *other);
-                }
+                add(row, brought);
             }
         }
         done += 1;
@@ -44,21 +49,28 @@ pub fn tied(rows: Vec<Vec<u8>>) -> bool {
     rank(rows) < count
 }
 
+/// Whether the rows multiplied by these digits add to the zero row.
+pub fn adds_to_zero(rows: &[Vec<u8>], digits: &[u8]) -> bool {
+    let columns = rows.first().map_or(0, Vec::len);
+    let term = |(row, digit): (&Vec<u8>, &u8), j: usize| usize::from(row[j] * digit);
+    let sum = |j| rows.iter().zip(digits).map(|each| term(each, j)).sum::<usize>();
+    (0..columns).all(|j| sum(j) % 3 == 0)
+}
+
+/// The words of the condition: of all choices of digits but that of zeros, those whose
+/// rows so multiplied add to the zero row. For few rows.
+pub fn choices_to_zero(rows: &[Vec<u8>]) -> Vec<Vec<u8>> {
+    let digit = |choice: usize, i: usize| (choice / 3usize.pow(i as u32) % 3) as u8;
+    let choices = 1..3usize.pow(rows.len() as u32);
+    let choices = choices.map(|choice| (0..rows.len()).map(|i| digit(choice, i)).collect());
+    choices.filter(|digits: &Vec<u8>| adds_to_zero(rows, digits)).collect()
+}
+
 #[cfg(test)]
 mod tests {
-    use super::{rank, tied};
+    use super::{choices_to_zero, rank, tied};
+    use crate::matrices::small;
     use crate::random::{report, Random};
-
-    /// The words of the condition: all choices of digits but that of zeros are tried.
-    fn some_choice_adds_to_zero(rows: &[Vec<u8>], columns: usize) -> bool {
-        let digit = |choice: usize, i: usize| choice / 3usize.pow(i as u32) % 3;
-        let sum = |choice: usize, j: usize| {
-            let term = |(i, row): (usize, &Vec<u8>)| digit(choice, i) * usize::from(row[j]);
-            rows.iter().enumerate().map(term).sum::<usize>() % 3
-        };
-        let choices = 3usize.pow(rows.len() as u32);
-        (1..choices).any(|choice| (0..columns).all(|j| sum(choice, j) == 0))
-    }
 
     #[test]
     fn rows_are_tied_as_the_words_say() {
@@ -66,12 +78,8 @@ mod tests {
         let (count, mut found) = (4_000, [0; 2]);
         for _ in 0..count {
             let (height, columns) = (random.below(6), 1 + random.below(7));
-            // Few digits other than 0 make ties of every sort.
-            let full = 3 + random.below(5);
-            let mut digit = || random.below(full).min(2) as u8;
-            let rows: Vec<Vec<u8>> =
-                (0..height).map(|_| (0..columns).map(|_| 2 - digit()).collect()).collect();
-            let right = some_choice_adds_to_zero(&rows, columns);
+            let rows = small(&mut random, height, columns);
+            let right = !choices_to_zero(&rows).is_empty();
             found[usize::from(right)] += 1;
             assert_eq!(tied(rows.clone()), right, "{rows:?}");
         }

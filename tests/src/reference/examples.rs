@@ -283,8 +283,8 @@ fn deal_frames_of_line_0_and_1() {
     }
 }
 
-/// "A frame of another line than the unit's ... gives 15": the highest number, so
-/// every other fault is told first.
+/// "A frame of another line than the unit's ... gives 15": the highest that a
+/// step gives, so every other fault is told first.
 #[test]
 fn a_unit_of_line_1_and_a_deal_of_line_0() {
     let dealt = dealer::deal(SET_1, SHARED, &[0; 256], 334).bytes;

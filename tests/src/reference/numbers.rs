@@ -38,6 +38,8 @@ pub const NO_SET: u32 = 14;
 /// "A frame of another line than the unit's, or two share frames of differing
 /// lines, gives 15."
 pub const OTHER_LINE: u32 = 15;
+/// "The tied file gives 0 here, a fit one 16."
+pub const NOT_TIED: u32 = 16;
 
 /// A number of the table and whether its condition holds. A condition that
 /// can't be judged is given as not holding.

@@ -67,6 +67,11 @@ impl Shape {
         self.digits * self.vector_bytes()
     }
 
+    /// "Each row takes two bytes, row number then digit, in a lent slice of 2 × t bytes"
+    pub const fn tie_bytes(self) -> usize {
+        2 * self.digits
+    }
+
     /// "so the files have 12, 1 and 54 blocks"
     pub const fn blocks(self) -> usize {
         self.digits.div_ceil(self.block_rows)

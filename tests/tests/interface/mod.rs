@@ -24,6 +24,14 @@ mod linked {
         pub fn pair_matrix_check(set: u32, file: In, n: Length) -> u32;
         pub fn pair_matrix_write(set: u32, rows: In, n: Length, out: Out, room: Length) -> u32;
         pub fn pair_matrix_read(set: u32, file: In, n: Length, out: Out, room: Length) -> u32;
+        pub fn pair_tied_rows(
+            set: u32,
+            file: In,
+            n: Length,
+            out: Out,
+            room: Length,
+            count: *mut u64,
+        ) -> u32;
         pub fn pair_evaluate(
             set: u32,
             key: In,
@@ -115,6 +123,11 @@ pub fn matrix_write(set: u32, rows: &[u8], out: &mut [u8]) -> u32 {
 pub fn matrix_read(set: u32, file: &[u8], out: &mut [u8]) -> u32 {
     let (output, room) = (out.as_mut_ptr(), out.len());
     unsafe { linked::pair_matrix_read(set, file.as_ptr(), file.len(), output, room) }
+}
+
+pub fn tied_rows(set: u32, file: &[u8], out: &mut [u8], count: &mut u64) -> u32 {
+    let (output, room) = (out.as_mut_ptr(), out.len());
+    unsafe { linked::pair_tied_rows(set, file.as_ptr(), file.len(), output, room, count) }
 }
 
 pub fn evaluate(set: u32, key: &[u8], label: &[u8], file: &[u8], out: &mut [u8]) -> u32 {

@@ -2,14 +2,16 @@
 //! third row.
 
 use crate::interface;
+use crate::matrix_calls::compare_list;
 use service_pair_tests::guarded::compare;
-use service_pair_tests::matrices::{file_of, packed_row, tie, uniform, Terms};
+use service_pair_tests::matrices::{file_of, list_of, packed_row, tie, uniform, Terms};
 use service_pair_tests::random::{report, Random};
 use service_pair_tests::reference::matrix::{
     block_of, block_sums, row_place, rows_of_file, BLOCK_BYTES, CHECK_AT,
 };
 use service_pair_tests::reference::numbers::{Answer, TIED_ROWS};
 use service_pair_tests::reference::shape::{Shape, SETS};
+use service_pair_tests::reference::tied_rows::listed;
 
 /// A file with another row, and that block's check.
 fn with_row(shape: Shape, fit: &[u8], i: usize, row: &[u8]) -> Vec<u8> {
@@ -68,7 +70,10 @@ fn every_two_rows() {
                 tie(&mut rows, row, &terms);
                 let tied = with_row(shape, &file, row, &packed_row(shape, &rows[row]));
                 refused(&mut random, shape, &tied);
-                count += 1;
+                // The sum less the row is the zero row, and 2 is -1.
+                let list = listed(list_of(&[&terms[..], &[(row, 2)]].concat()));
+                compare_list(&mut random, shape.set, &tied, shape.tie_bytes(), &list);
+                count += 2;
             }
         }
     }

@@ -119,11 +119,11 @@ multiples-table w words a p table x =
     }
 
 -- the table before the first turn
-pub zero-table : (w : ℕ) → w ≤ 8 → Table w (zeros 48)
+pub zero-table : (w : ℕ) → w ≤ 11 → Table w (zeros 66)
 zero-table w h =
     record {
-      long = rw (length-zeros 48) (omega arith);
-      zero-entry = λ m l k. ap₂ (λ (x u : ℕ). tritOf x u k) (getD-zeros 48 (0 + m)) (getD-zeros 48 (0 + w + m)) ∙ ap₂ (λ (x u : ℕ). x + 2 * u) (bit-at-zero k) (bit-at-zero k);
+      long = rw (length-zeros 66) (omega arith);
+      zero-entry = λ m l k. ap₂ (λ (x u : ℕ). tritOf x u k) (getD-zeros 66 (0 + m)) (getD-zeros 66 (0 + w + m)) ∙ ap₂ (λ (x u : ℕ). x + 2 * u) (bit-at-zero k) (bit-at-zero k);
     }
 
 -- ---- a digit times trits, under masks

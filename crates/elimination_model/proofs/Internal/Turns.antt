@@ -3,8 +3,8 @@ use mathlib.Core.Path.{_≡_, refl, sym, ap, ap₂, _∙_}
 use mathlib.Core.List.{List}
 use mathlib.Core.Bool.{Bool, cond}
 use mathlib.Core.Logic.{_≢_, _⊎_, inl, inr}
-use Prim.Native.Nat.{ℕ, zero, suc, _+_, _-_, _*_, _/_, _%_, _^_, _<_, _≤_, max}
-use native.Mathlib.Nat.{mod-lt, mod-mod, mod-eq-of-lt, add-mod-mod, zero-lt-suc, mul-le-mul-left, pow-suc}
+use Prim.Native.Nat.{ℕ, zero, suc, _+_, _*_, _/_, _%_, _^_, _<_, _≤_, max}
+use native.Mathlib.Nat.{mod-lt, mod-mod, mod-eq-of-lt, add-mod-mod, le-trans, zero-lt-suc, mul-le-mul-left, pow-suc}
 use native.Mathlib.Numerals.{add-one}
 use native.Mathlib.Decide.{decLt}
 use native.Mathlib.Omega.{arith}
@@ -17,9 +17,10 @@ use Rattle.linear_model.specs.Bits.{bitAt}
 use Rattle.linear_model.specs.Internal.Planes.{tritOf}
 use Rattle.linear_model.proofs.Tables.{same₂}
 use Rattle.linear_model.proofs.NumberBits.{bit-at-zero, bit-at-lt, bit-at-suc, or-bit-at}
-use Rattle.elimination_model.specs.Internal.Elimination.{factor, cleared}
-use Rattle.elimination_model.specs.Internal.Words.{wordTrit, digitAt, FitRow, FitRows, RowWritten, RowsWritten, ClearedWord, NonzeroColumn, EntryWord, Pivot, Turn}
+use Rattle.elimination_model.specs.Internal.Elimination.{factor, cleared, Carried}
+use Rattle.elimination_model.specs.Internal.Words.{wordTrit, digitAt, FitRow, FitRows, RowWritten, RowsWritten, ClearedWord, NonzeroColumn, EntryWord, Pivot, Turn, carriedAt}
 use Rattle.elimination_model.proofs.Elimination.{Cleared, cleared-clears, Reduced, reduced-more}
+use Rattle.elimination_model.proofs.Carried.{carried-more}
 use Rattle.elimination_model.proofs.Internal.Writing.{next-or-before, rows-apart, written-map}
 
 -- ---- a column that is not 0
@@ -173,24 +174,45 @@ module _ (w t r word bit : ℕ) (words words' : List ℕ) (f : FitRows w t words
           not-less u = omega arith
 
 -- a column in which a row is not 0 is a pivot's
-pub column-pivot : (w t r word bit : ℕ) (words : List ℕ) → FitRows w t words → r < t → NonzeroColumn w words (2 * w * r) word bit → word < w
+pub column-pivot : (w f t r word bit : ℕ) (words : List ℕ) → FitRows w t words → r < t → f ≤ w → NonzeroColumn w f words (2 * w * r) word bit → word < f
     → Pivot w t r word bit words
-column-pivot w t r word bit words f h x l = record { within = h; inside = l; small = x .small; fit = f; nonzero = x .found l }
+column-pivot w f t r word bit words g h e x l = record { within = h; inside = le-trans l e; small = x .small; fit = g; nonzero = x .found l }
 
--- one turn more
-pub turn-reduced : (w t r word bit : ℕ) (words₀ words words' : List ℕ) → Reduced (64 * w) t (digitAt w words₀) (digitAt w words) r
-    → Pivot w t r word bit words → RowsWritten w (r + 1) t (ClearedWord w r word bit words) words words'
-    → Reduced (64 * w) t (digitAt w words₀) (digitAt w words') (r + 1)
-turn-reduced w t r word bit words₀ words words' x y z =
-    let v : wordTrit w words (2 * w * r) word bit % 3 ≢ 0 =
-    λ e. y .nonzero (sym (mod-eq-of-lt (y .fit .fit r word (y .within) (y .inside) bit)) ∙ e) in
-    let g : 64 * word + bit < 64 * w = omega (arith, y .inside, y .small) in
-    rw add-one
-    (reduced-more (64 * w) t r (64 * word + bit) (factor r (64 * word + bit) (digitAt w words)) (digitAt w words₀) (digitAt w words) (digitAt w words') x (y .within) g
-    (λ e. v (ap (λ (n : ℕ). n % 3) (sym (digit-column w words r word bit (y .small))) ∙ e))
-    (digits-cleared w t r word bit words words' (y .fit) (y .within) z (y .inside) (y .small) v))
+-- one turn more, with a pivot in the first f words
+module _ (w f t r word bit : ℕ) (words words' : List ℕ) (inner : f ≤ w) (first : word < f) (y : Pivot w t r word bit words)
+    (z : RowsWritten w (r + 1) t (ClearedWord w r word bit words) words words') where
+  abbrev pivotColumn : ℕ
+  pivotColumn = 64 * word + bit
+
+  nonzero : digitAt w words r pivotColumn % 3 ≢ 0
+  nonzero e =
+      y .nonzero
+      (sym (mod-eq-of-lt (y .fit .fit r word (y .within) (y .inside) bit)) ∙ ap (λ (n : ℕ). n % 3) (sym (digit-column w words r word bit (y .small))) ∙ e)
+
+  all-cleared : Cleared (64 * w) t r pivotColumn (factor r pivotColumn (digitAt w words)) (digitAt w words) (digitAt w words')
+  all-cleared =
+      digits-cleared w t r word bit words words' (y .fit) (y .within) z (y .inside) (y .small)
+      (λ e. nonzero (ap (λ (n : ℕ). n % 3) (digit-column w words r word bit (y .small)) ∙ e))
+
+  front-cleared : Cleared (64 * f) t r pivotColumn (factor r pivotColumn (digitAt w words)) (digitAt w words) (digitAt w words')
+  front-cleared =
+      let c = all-cleared in
+      record { kept = c .kept; is = λ i j l k. c .is i j l (omega arith); gone = c .gone }
+
+  -- a row more has its pivot
+  pub turn-reduced : (words₀ : List ℕ) → Reduced (64 * f) t (digitAt w words₀) (digitAt w words) r → Reduced (64 * f) t (digitAt w words₀) (digitAt w words') (r + 1)
+  turn-reduced words₀ x =
+      rw add-one
+      (reduced-more (64 * f) t r pivotColumn (factor r pivotColumn (digitAt w words)) (digitAt w words₀) (digitAt w words) (digitAt w words') x (y .within) (omega (arith, y .small)) nonzero front-cleared)
+
+  -- rows that carry the combination that they are still do
+  pub turn-carried : (a : ℕ → ℕ → ℕ) → 64 * f + t ≤ 64 * w
+      → Carried (64 * f) t a (digitAt w words) (carriedAt w f words) → Carried (64 * f) t a (digitAt w words') (carriedAt w f words')
+  turn-carried a room x =
+      carried-more (64 * f) t r pivotColumn (factor r pivotColumn (digitAt w words)) a (digitAt w words) (digitAt w words') (carriedAt w f words) (carriedAt w f words') (y .within) x front-cleared
+      (λ i k l m. all-cleared .is i (64 * f + k) l (omega arith))
 
 -- a zero row
-pub turn-zero : (w r word bit : ℕ) (words : List ℕ) → NonzeroColumn w words (2 * w * r) word bit → w ≤ word
-    → (j : ℕ) → j < 64 * w → digitAt w words r j % 3 ≡ 0
-turn-zero w r word bit words y l j k = ap (λ (v : ℕ). v % 3) (y .zero-row l (j / 64) (omega arith) (j % 64))
+pub turn-zero : (w f r word bit : ℕ) (words : List ℕ) → NonzeroColumn w f words (2 * w * r) word bit → f ≤ word
+    → (j : ℕ) → j < 64 * f → digitAt w words r j % 3 ≡ 0
+turn-zero w f r word bit words y l j k = ap (λ (v : ℕ). v % 3) (y .zero-row l (j / 64) (omega arith) (j % 64))

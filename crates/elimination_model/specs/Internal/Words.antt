@@ -5,8 +5,10 @@ use mathlib.Core.Logic.{_≢_}
 use mathlib.Core.List.{List}
 use mathlib.Core.Bool.{true, false}
 use lib.ListN.{length, getD}
+use Rattle.linear_model.specs.Tables.{oneAt}
 use Rattle.linear_model.specs.Internal.Planes.{tritOf}
 use Rattle.elimination_model.specs.Independence.{tied, tritAt}
+use Rattle.elimination_model.specs.Internal.Elimination.{Carried, carrying}
 
 -- ---- digits
 
@@ -17,6 +19,10 @@ wordTrit w words a m k = tritOf (getD words (a + m) 0) (getD words (a + w + m) 0
 -- the digit of row i in column j
 abbrev pub digitAt : ℕ → List ℕ → ℕ → ℕ → ℕ
 digitAt w words i j = wordTrit w words (2 * w * i) (j / 64) (j % 64)
+
+-- digit k of the combination that row i carries behind its first f words
+abbrev pub carriedAt : ℕ → ℕ → List ℕ → ℕ → ℕ → ℕ
+carriedAt w f words i k = digitAt w words i (64 * f + k)
 
 -- the row from word a on is there, and no trit of it has both bits set
 pub record FitRow (w : ℕ) (words : List ℕ) (a : ℕ) : Type 0 where
@@ -53,13 +59,13 @@ SumWord w table a words b m x u = (k : ℕ) → tritOf x u k ≡ (wordTrit w wor
 abbrev pub CopiedWord : List ℕ → ℕ → ℕ → ℕ → ℕ → ℕ → Type 0
 CopiedWord words low high m x u = (x ≡ getD words (low + m) 0) × (u ≡ getD words (high + m) 0)
 
--- x and u have the digits of word m of row i of rows whose planes have so many bytes; a trit with both bits set counts as 0
-abbrev pub LoadedWord : ℕ → List ℕ → ℕ → ℕ → ℕ → ℕ → Type 0
-LoadedWord bytes rows i m x u = ((k : ℕ) → k < 64 → tritOf x u k ≡ tritAt bytes rows i (64 * m + k) % 3) × ((k : ℕ) → tritOf x u k < 3)
+-- x and u have the digits of word m of row i of the rows a, f words to a plane, each carrying itself alone; a trit with both bits set counts as 0
+abbrev pub LoadedWord : ℕ → (ℕ → ℕ → ℕ) → ℕ → ℕ → ℕ → ℕ → Type 0
+LoadedWord f a i m x u = ((k : ℕ) → k < 64 → tritOf x u k ≡ carrying (64 * f) a i (64 * m + k) % 3) × ((k : ℕ) → tritOf x u k < 3)
 
--- the same of rows that go to row `first` and the rows after it
-abbrev pub LoadedFrom : ℕ → List ℕ → ℕ → ℕ → ℕ → ℕ → ℕ → Type 0
-LoadedFrom bytes rows first i = LoadedWord bytes rows (i - first)
+-- rows whose planes have so many bytes, where they go to row `first` and the rows after it
+abbrev pub rowsAfter : ℕ → ℕ → List ℕ → ℕ → ℕ → ℕ
+rowsAfter first bytes rows i = tritAt bytes rows (i - first)
 
 -- ---- a turn of the elimination
 
@@ -72,12 +78,12 @@ ClearedWord w r word bit words i m x u =
     + 2 * (wordTrit w words (2 * w * i) word bit * wordTrit w words (2 * w * r) word bit) * wordTrit w words (2 * w * r) m k)
     % 3
 
--- a word and a place in it in which the row from word a on is not 0; word w if the row is zero
-pub record NonzeroColumn (w : ℕ) (words : List ℕ) (a word bit : ℕ) : Type 0 where
-  pub within : word ≤ w
+-- one of the first f words and a place in it in which the row from word a on is not 0; word f if it is zero in all of them
+pub record NonzeroColumn (w f : ℕ) (words : List ℕ) (a word bit : ℕ) : Type 0 where
+  pub within : word ≤ f
   pub small : bit < 64
-  pub found : word < w → wordTrit w words a word bit ≢ 0
-  pub zero-row : w ≤ word → (m : ℕ) → m < w → (k : ℕ) → wordTrit w words a m k ≡ 0
+  pub found : word < f → wordTrit w words a word bit ≢ 0
+  pub zero-row : f ≤ word → (m : ℕ) → m < f → (k : ℕ) → wordTrit w words a m k ≡ 0
 
 -- entry d of a table of three rows is the row from word a on, times 2 d p
 pub record Multiples (w : ℕ) (words : List ℕ) (a p : ℕ) (table : List ℕ) : Type 0 where
@@ -111,8 +117,39 @@ pub record Turn (w t r word bit : ℕ) (words table : List ℕ) : Type 0 where
   pub pivot : Pivot w t r word bit words
   pub multiples : Multiples w words (2 * w * r) (wordTrit w words (2 * w * r) word bit) table
 
--- r is the first row that is tied to the rows before it; t if there is none
-pub record FirstTied (w t : ℕ) (words : List ℕ) (r : ℕ) : Type 0 where
+-- r is the first row that is tied to the rows before it in the columns of the first f words, and has become zero there; t if there is none
+pub record FirstTied (w f t : ℕ) (words words' : List ℕ) (r : ℕ) : Type 0 where
   pub within : r ≤ t
-  pub before : tied (64 * w) r (digitAt w words) ≡ false
-  pub is-tied : r < t → tied (64 * w) (suc r) (digitAt w words) ≡ true
+  pub before : tied (64 * f) r (digitAt w words) ≡ false
+  pub is-tied : r < t → tied (64 * f) (suc r) (digitAt w words) ≡ true
+  pub fit : FitRows w t words'
+  pub zero-row : r < t → (j : ℕ) → j < 64 * f → digitAt w words' r j % 3 ≡ 0
+  -- rows that carry the combination that they are still do
+  pub carried : (a : ℕ → ℕ → ℕ) → 64 * f + t ≤ 64 * w
+      → Carried (64 * f) t a (digitAt w words) (carriedAt w f words) → Carried (64 * f) t a (digitAt w words') (carriedAt w f words')
+
+-- row r is there, is fit, and carries behind its first f words the digits of rows 0 to r
+pub record CarryingRow (w f r : ℕ) (words : List ℕ) : Type 0 where
+  pub row : FitRow w words (2 * w * r)
+  pub room : 64 * f + r < 64 * w
+
+-- t rows are there and fit, and each carries the combination that it is, itself alone
+pub record Carrying (w f t : ℕ) (words : List ℕ) : Type 0 where
+  pub fit : FitRows w t words
+  pub room : 64 * f + t ≤ 64 * w
+  pub alone : (i k : ℕ) → i < t → k < t → carriedAt w f words i k ≡ oneAt i k
+
+-- ---- rows of any size
+
+-- the words to a plane of t rows of so many bytes to a plane, each with the combination that it carries
+abbrev pub rowWords : ℕ → ℕ → ℕ
+rowWords bytes t = bytes / 8 + (t + 63) / 64
+
+-- t rows of whole words, so many bytes to a plane, for which there is room: in all, in words, and for the list in an output slice of n bytes
+pub record Room (bytes t rows words n : ℕ) : Type 0 where
+  pub whole : bytes % 8 ≡ 0
+  pub few-words : rowWords bytes t ≤ 11
+  pub few-rows : t ≤ 256
+  pub all-rows : 2 * bytes * t ≤ rows
+  pub in-words : 2 * rowWords bytes t * t ≤ words
+  pub list : 2 * t ≤ n

@@ -11,15 +11,18 @@ use lib.ListN.{drop}
 use Rattle.linear_model.specs.Trits.{trit, zeroTrits}
 use Rattle.linear_model.specs.Products.{rowsFrom}
 use Rattle.elimination_model.specs.Independence.{tied, tritAt}
-use Rattle.elimination_model.specs.Internal.Words.{RowsWritten, LoadedWord, LoadedFrom}
+use Rattle.elimination_model.specs.Tie.{tieBytes}
+use Rattle.elimination_model.specs.Internal.Words.{digitAt, RowsWritten, LoadedWord, rowsAfter}
 use Rattle.elimination_model.proofs.Independence.{fails-somewhere, untied-wider}
+use Rattle.elimination_model.proofs.Internal.Loading.{carrying-same, loaded-tie}
 use Rattle.elimination_model.proofs.Internal.Writing.{rows-join, rows-map}
 use Rattle.elimination_model.proofs.Packed.{zero-row-tied}
 use Rattle.numbers.specs.Number.{first}
 use Rattle.numbers.proofs.Numbers.{holds, is-false}
 use Rattle.matrix_model.specs.Block.{Layout}
 use Rattle.matrix_model.specs.File.{Fits, rowPlaneOf, badTritOf, tiedRowsOf, rowFaultsOf, layoutOf}
-use Rattle.matrix_model.specs.Internal.Rows.{nonzeroRow, zeroRowOf, rowsNumber, Eliminable, tiedInColumns}
+use Rattle.matrix_model.specs.Ties.{tieOf}
+use Rattle.matrix_model.specs.Internal.Rows.{nonzeroRow, zeroRowOf, rowsNumber, planeWords, carryingWords, Eliminable, CarryingRoom, tiedInColumns}
 use Rattle.matrix_model.proofs.Internal.Rows.{trit-take}
 use Rattle.matrix_model.proofs.Internal.RowNumbers.{Among, same-row}
 
@@ -32,7 +35,7 @@ zero-rows-tied layout rows e =
     zero-row-tied m (layout .rowCount) rows (f .0) (f .1) (not-false (zeroTrits m 0 (rowsFrom m rows (f .0))) (is-false _ (f .2)))
 
 -- the number by two tests: of trits, and of a zero row or of tied rows
-abbrev numberBy : Bool → Bool → ℕ
+abbrev pub numberBy : Bool → Bool → ℕ
 numberBy unfit tied = cond unfit 10 (cond tied 12 0)
 
 -- a number of the tests of each row is that of the rows: a zero row has tied rows'
@@ -71,38 +74,49 @@ among-trits {layout} fits {set} {part} {i} a q j l m =
     ∙ trit-take n (drop (2 * n * (i + q)) set) j m
 
 -- a part more of the rows is loaded
-pub loaded-more : {layout : Layout} → Fits layout → {set part : List ℕ} {i k : ℕ} → Among layout set i k part → (v : ℕ) → 8 * v ≤ rowPlaneOf layout
-    → {words₀ words words' : List ℕ} → RowsWritten v 0 i (LoadedWord (rowPlaneOf layout) set) words₀ words
-    → RowsWritten v i (i + k) (LoadedFrom (rowPlaneOf layout) part i) words words' → RowsWritten v 0 (i + k) (LoadedWord (rowPlaneOf layout) set) words₀ words'
-loaded-more {layout} fits {set} {part} {i} {k} a v h {words₀} {words} {words'} x y =
-    rows-join v 0 i (i + k) _ words₀ words words' (omega arith) (omega arith) x
-    (rows-map v i (i + k) _ _ words words' y (λ r m x u l g q f. (λ b c. f .0 b c ∙ ap (λ (n : ℕ). n % 3) (same r m b l g q c), f .1)))
+pub loaded-more : {layout : Layout} → Fits layout → {set part : List ℕ} {i k : ℕ} → Among layout set i k part → (w f : ℕ) → 8 * f ≤ rowPlaneOf layout
+    → {words₀ words words' : List ℕ} → RowsWritten w 0 i (LoadedWord f (tritAt (rowPlaneOf layout) set)) words₀ words
+    → RowsWritten w i (i + k) (LoadedWord f (rowsAfter i (rowPlaneOf layout) part)) words words'
+    → RowsWritten w 0 (i + k) (LoadedWord f (tritAt (rowPlaneOf layout) set)) words₀ words'
+loaded-more {layout} fits {set} {part} {i} {k} a w f h {words₀} {words} {words'} x y =
+    rows-join w 0 i (i + k) _ words₀ words words' (omega arith) (omega arith) x
+    (rows-map w i (i + k) _ _ words words' y
+    (λ r m x u l g q e.
+    (λ b c. e .0 b c ∙ ap (λ (j : ℕ). j % 3) (carrying-same (64 * f) (rowsAfter i n part) (tritAt n set) r (64 * m + b) (same r (64 * m + b) l g)), e .1)))
   where
     n : ℕ
     n = rowPlaneOf layout
 
-    same : (r m b : ℕ) → i ≤ r → r < i + k → m < v → b < 64 → tritAt n part (r - i) (64 * m + b) ≡ tritAt n set r (64 * m + b)
-    same r m b l g q c =
+    same : (r j : ℕ) → i ≤ r → r < i + k → j < 64 * f → tritAt n part (r - i) j ≡ tritAt n set r j
+    same r j l g q =
         let e : i + (r - i) ≡ r = omega arith in
-        among-trits fits a (r - i) (64 * m + b) (omega arith) (omega arith) ∙ ap (λ (z : ℕ). tritAt n set z (64 * m + b)) e
+        among-trits fits a (r - i) j (omega arith) (omega arith) ∙ ap (λ (z : ℕ). tritAt n set z j) e
 
 -- ---- columns
 
 -- the words of a plane have all columns
+all-bits : (layout : Layout) → Eliminable layout → 64 * planeWords layout ≡ 8 * rowPlaneOf layout
+all-bits layout h = omega (arith, h .whole-words)
+
 module _ (layout : Layout) (rows : List ℕ) (h : Eliminable layout) where
-  pub all-columns : tiedInColumns layout (layout .rowBytes / 16) rows ≡ tiedRowsOf layout rows
+  pub all-columns : tiedInColumns layout (planeWords layout) rows ≡ tiedRowsOf layout rows
   unfolding tiedRowsOf
-  all-columns =
-      let e : 64 * (layout .rowBytes / 16) ≡ 8 * rowPlaneOf layout = omega (arith, h .whole-words) in
-      ap (λ (n : ℕ). tied n (layout .rowCount) (tritAt (rowPlaneOf layout) rows)) e
+  all-columns = ap (λ (n : ℕ). tied n (layout .rowCount) (tritAt (rowPlaneOf layout) rows)) (all-bits layout h)
 
   -- rows that are not tied in the first v words are not tied
-  pub first-columns : (v : ℕ) → v ≤ layout .rowBytes / 16 → tiedInColumns layout v rows ≡ false → tiedRowsOf layout rows ≡ false
+  pub first-columns : (v : ℕ) → v ≤ planeWords layout → tiedInColumns layout v rows ≡ false → tiedRowsOf layout rows ≡ false
   unfolding tiedRowsOf
   first-columns v l e = untied-wider (64 * v) (8 * rowPlaneOf layout) (layout .rowCount) (tritAt (rowPlaneOf layout) rows) (omega arith) e
 
+  -- the tie of the rows as they are loaded is theirs
+  pub rows-tie : (w : ℕ) (words words' : List ℕ) → planeWords layout ≤ w
+      → RowsWritten w 0 (layout .rowCount) (LoadedWord (planeWords layout) (tritAt (rowPlaneOf layout) rows)) words words'
+      → tieBytes (64 * planeWords layout) (layout .rowCount) (digitAt w words') ≡ tieOf layout rows
+  unfolding tieOf
+  rows-tie w words words' l x = loaded-tie w (planeWords layout) (layout .rowCount) _ words words' x (8 * rowPlaneOf layout) l (all-bits layout h)
+
 -- there is room for v words of each plane
-pub column-room : (layout : Layout) → Eliminable layout → (v : ℕ) → v ≤ layout .rowBytes / 16 → 2 * v * layout .rowCount ≤ 2592
+pub column-room : (layout : Layout) → Eliminable layout → (v : ℕ) → v ≤ planeWords layout → 2 * v * layout .rowCount ≤ 2592
 column-room layout h v l = omega (arith, h .room, mul-le-mul-right {m = 2 * v} {n = layout .rowBytes / 8} (layout .rowCount) (omega arith))
 
 -- ---- layouts with room for the elimination
@@ -121,3 +135,19 @@ second-eliminable = eliminable-by (layoutOf 2) refl tt tt
 
 pub third-eliminable : Eliminable (layoutOf 3)
 third-eliminable = eliminable-by (layoutOf 3) refl tt tt
+
+-- ---- and where rows carry combinations
+
+carrying-by : (layout : Layout) → T (leb (carryingWords layout) 11) → T (leb (2 * carryingWords layout * layout .rowCount) 3564)
+    → T (leb (layout .rowCount) 256) → CarryingRoom layout
+carrying-by layout few room numbers = record { few-words = lit≤ few; room = lit≤ room; row-numbers = lit≤ numbers }
+
+-- the three sets'
+pub first-carrying : CarryingRoom (layoutOf 1)
+first-carrying = carrying-by (layoutOf 1) tt tt tt
+
+pub second-carrying : CarryingRoom (layoutOf 2)
+second-carrying = carrying-by (layoutOf 2) tt tt tt
+
+pub third-carrying : CarryingRoom (layoutOf 3)
+third-carrying = carrying-by (layoutOf 3) tt tt tt

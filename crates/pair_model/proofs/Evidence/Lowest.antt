@@ -8,7 +8,7 @@ use Rattle.numbers.specs.Lowest.{RisingFrom, Rising}
 use Rattle.numbers.proofs.Lowest.{rising-from, UpTo, rising-last, rising-merge, first-lowest}
 use Rattle.matrix_model.specs.File.{layoutOf}
 use Rattle.numbers.proofs.Sets.{lowest-in}
-use Rattle.matrix_model.proofs.Lowest.{faults-rise, faults-up-to, check-lowest, read-lowest, write-lowest}
+use Rattle.matrix_model.proofs.Lowest.{faults-rise, faults-up-to, check-lowest, read-lowest, write-lowest, tie-lowest}
 use Rattle.pair_model.specs.Scheme.{Files, faultsIn, Scheme}
 use Rattle.pair_model.specs.Base.{schemeOf}
 use Rattle.pair_model.specs.Frame.{Parameters, lineOf}
@@ -95,5 +95,6 @@ lowest-numbers =
       writes = write-lowest;
       reads = read-lowest;
       checks = check-lowest;
+      lists = tie-lowest;
       runs = λ input n. first-lowest (run-rises input n);
     }

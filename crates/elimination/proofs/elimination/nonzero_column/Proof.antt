@@ -12,10 +12,10 @@ use Rattle.elimination.proofs.elimination.nonzero_column.Statement.{sta
 use Rattle.elimination.proofs.elimination.nonzero_column.Tie as tie
 
 abbrev Inv-loop : tie.InvT-loop
-Inv-loop words a w m₀ m = (m ≤ w) × ((s : ℕ) → s < m → (k : ℕ) → wordTrit w words a s k ≡ 0)
+Inv-loop words a w f m₀ m = (m ≤ f) × ((s : ℕ) → s < m → (k : ℕ) → wordTrit w words a s k ≡ 0)
 
 abbrev μ-loop : tie.MeasureT-loop
-μ-loop words a w m₀ m = w - m
+μ-loop words a w f m₀ m = f - m
 
 set-bit-requires : tie.Need-set-bit-requires Inv-loop μ-loop
 set-bit-requires c κs = omega arith
@@ -41,9 +41,9 @@ loop-again c =
 returns-2 : tie.Need-returns-2 Inv-loop μ-loop
 returns-2 c =
     let l = c .before in
-    let e : l .loop .m ≡ l .before .before .args .w = omega arith in
+    let e : l .loop .m ≡ l .before .before .args .f = omega arith in
     record {
-      within = le-refl (l .before .before .args .w);
+      within = le-refl (l .before .before .args .f);
       small = lit< tt;
       found = λ h. absurd (omega arith);
       zero-row = λ h m g. l .loop .inv .1 m (omega arith);

@@ -3,6 +3,7 @@ use mathlib.Core.Path.{_≡_}
 use Prim.Native.Nat.{_+_, _-_, _*_, _<_, _≤_, min}
 use native.Mathlib.Nat.{mul-le-mul-left}
 use native.Mathlib.Omega.{arith}
+use Rattle.elimination_model.specs.Independence.{tritAt}
 use Rattle.elimination_model.specs.Internal.Words.{RowsWritten, LoadedWord}
 use Rattle.elimination_model.proofs.Internal.Writing.{rows-none}
 use Rattle.matrix_model.specs.File.{blockCount, rowPlaneOf}
@@ -15,12 +16,12 @@ use Rattle.matrix_ties.proofs.ties.load.Statement.{statement}
 use Rattle.matrix_ties.proofs.ties.load.Tie as tie
 
 abbrev Inv-loop : tie.InvT-loop
-Inv-loop layout s in-blocks v words₀ bytes blocks b₀ words b =
+Inv-loop layout s in-blocks w f words₀ bytes blocks b₀ words b =
     (b ≤ blocks)
-    × RowsWritten v 0 (min (layoutIn layout .blockRows * b) (layoutIn layout .rowCount)) (LoadedWord (rowPlaneOf (layoutIn layout)) (rowsHeld (layoutIn layout) in-blocks s)) words₀ words
+    × RowsWritten w 0 (min (layoutIn layout .blockRows * b) (layoutIn layout .rowCount)) (LoadedWord f (tritAt (rowPlaneOf (layoutIn layout)) (rowsHeld (layoutIn layout) in-blocks s))) words₀ words
 
 abbrev μ-loop : tie.MeasureT-loop
-μ-loop layout s in-blocks v words₀ bytes blocks b₀ words b = blocks - b
+μ-loop layout s in-blocks w f words₀ bytes blocks b₀ words b = blocks - b
 
 block-count-requires : tie.Need-block-count-requires Inv-loop μ-loop
 block-count-requires c κs = c .before .before .before .pre .0
@@ -87,7 +88,7 @@ load-rows-by-size-requires c κs =
     let h : layout .blockRows * l .loop .b + r .rows-in .result ≤ layout .rowCount = omega (arith, next r) in (
       s .pre .2,
       rw (planes layout (s .pre .0)) (omega (arith, block r .long)),
-      omega (arith, s .pre .3, l .loop .inv .1 .size, mul-le-mul-left (2 * s .args .v) h),
+      omega (arith, s .pre .3, l .loop .inv .1 .size, mul-le-mul-left (2 * s .args .w) h),
       omega (arith, count-small layout (s .pre .0)),
     )
 
@@ -97,7 +98,7 @@ loop-again c =
     let l = r .before .before .before in
     let s = l .before .before .before .before .before in
     let x = rw (before r) at (l .loop .inv .1) in
-    (omega arith, rw (next r) (loaded-more (s .pre .0) (block r) (s .args .v) (s .pre .2) x (c .before .before .load-rows-by-size .ensures)))
+    (omega arith, rw (next r) (loaded-more (s .pre .0) (block r) (s .args .w) (s .args .f) (s .pre .2) x (c .before .before .load-rows-by-size .ensures)))
 
 returns : tie.Need-returns Inv-loop μ-loop
 returns c =
