@@ -69,16 +69,13 @@ fn fill_table(words: &[u64], a: usize, w: usize, p: usize, table: &mut [u64])
     put_row(words, a + w, a, table, 2 * w * p, w);
 }
 
-// The same. One and two words are written out, so that each gets code of its own; for longer rows filling is little beside clearing.
+// The same. One word is written out, so that it gets code of its own; for longer rows filling is little beside clearing.
 fn fill_table_by_size(words: &[u64], a: usize, w: usize, p: usize, table: &mut [u64])
     requires { ⌜ FitRow w (now words) a × (0 < p) × (p < 3) × Table w (now table) ⌝ }
     ensures { λ _. ⌜ Multiples w (now (words .entry)) a p (now (table .exit)) ⌝ }
 {
     if w == 1 {
         return fill_table(words, a, 1, p, table);
-    }
-    if w == 2 {
-        return fill_table(words, a, 2, p, table);
     }
     fill_table(words, a, w, p, table);
 }
@@ -136,7 +133,7 @@ fn clear_rows(words: &mut [u64], table: &[u64], w: usize, t: usize, r: usize, co
     }
 }
 
-// The same, with the sizes in use written out.
+// The same, with the sizes in use written out but for two and four words (`first_tied`).
 fn clear_rows_by_size(
     words: &mut [u64],
     table: &[u64],
@@ -150,12 +147,6 @@ fn clear_rows_by_size(
 {
     if w == 1 {
         return clear_rows(words, table, 1, t, r, column);
-    }
-    if w == 2 {
-        return clear_rows(words, table, 2, t, r, column);
-    }
-    if w == 4 {
-        return clear_rows(words, table, 4, t, r, column);
     }
     if w == 6 {
         return clear_rows(words, table, 6, t, r, column);
@@ -182,7 +173,8 @@ fn take_turn(words: &mut [u64], table: &mut [u64], w: usize, t: usize, r: usize,
 }
 
 // The first of `t` rows that is tied to the rows before it in the columns of the first `f` words; `t` if there is none. What the rows carry
-// behind these words is added with them.
+// behind these words is added with them. Turns of two and four words to a plane are written out here, where the compiler sees that `table`
+// is apart from `words`: it copies two words to it at once, as the sums read them, and they need not wait.
 pub fn first_tied(words: &mut [u64], w: usize, f: usize, t: usize) -> usize
     requires { ⌜ (w ≤ 11) × (f ≤ w) × FitRows w t (now words) ⌝ }
     ensures { λ r. ⌜ FirstTied w f t (now (words .entry)) (now (words .exit)) r ⌝ }
@@ -194,7 +186,17 @@ pub fn first_tied(words: &mut [u64], w: usize, f: usize, t: usize) -> usize
         if f <= column.word {
             return r;
         }
-        take_turn(words, &mut table, w, t, r, column);
+        if w == 2 {
+            let p = digit_in(words, 4 * r, 2, column);
+            fill_table(words, 4 * r, 2, p, &mut table);
+            clear_rows(words, &table, 2, t, r, column);
+        } else if w == 4 {
+            let p = digit_in(words, 8 * r, 4, column);
+            fill_table(words, 8 * r, 4, p, &mut table);
+            clear_rows(words, &table, 4, t, r, column);
+        } else {
+            take_turn(words, &mut table, w, t, r, column);
+        }
         r += 1;
     }
     t

@@ -1,7 +1,8 @@
 // Rows in words: a row of `w` words to a plane is `2w` words, its low words before its high words.
 ghost use Prim.Native.Nat.{_+_, _*_, _≤_};
 ghost use lib.ListN.{length};
-ghost use Rattle.elimination_model.specs.Internal.Words.{FitRow, RowWritten, SumWord, CopiedWord};
+ghost use Rattle.linear_model.specs.Internal.Rotations.{Overwritten};
+ghost use Rattle.elimination_model.specs.Internal.Words.{FitRow, RowWritten, SumWord, wordAfter, CopiedWord};
 use linear_words::lanes::Trits;
 use linear_words::lanes::add;
 
@@ -28,15 +29,23 @@ pub fn add_row(table: &[u64], a: usize, words: &mut [u64], b: usize, w: usize)
     }
 }
 
+// Copies `n` words, from word `a` on, to `table` from word `e` on. A loop for one plane alone is one that the compiler takes for a copy.
+fn copy_words(words: &[u64], a: usize, table: &mut [u64], e: usize, n: usize)
+    requires { ⌜ (a + n ≤ length (now words)) × (e + n ≤ length (now table)) ⌝ }
+    ensures { λ _. ⌜ Overwritten (wordAfter (now (words .entry)) a) e n (now (table .entry)) (now (table .exit)) ⌝ }
+{
+    let mut m: usize = 0;
+    while m < n {
+        table[e + m] = words[a + m];
+        m += 1;
+    }
+}
+
 // Writes the row of `table` from word `e` on: low words are those of `words` from word `low` on, high words those from word `high` on.
 pub fn put_row(words: &[u64], low: usize, high: usize, table: &mut [u64], e: usize, w: usize)
     requires { ⌜ (low + w ≤ length (now words)) × (high + w ≤ length (now words)) × (e + 2 * w ≤ length (now table)) ⌝ }
     ensures { λ _. ⌜ RowWritten w e w (CopiedWord (now (words .entry)) low high) (now (table .entry)) (now (table .exit)) ⌝ }
 {
-    let mut m: usize = 0;
-    while m < w {
-        table[e + m] = words[low + m];
-        table[e + w + m] = words[high + m];
-        m += 1;
-    }
+    copy_words(words, low, table, e, w);
+    copy_words(words, high, table, e + w, w);
 }

@@ -9,7 +9,8 @@ use native.Mathlib.Decide.{decLt}
 use native.Mathlib.Omega.{arith}
 use lib.ListN.{length, getD, set, length-set}
 use lib.Seq.{getD-set-same, getD-set-other}
-use Rattle.elimination_model.specs.Internal.Words.{RowWritten, RowsWritten}
+use Rattle.linear_model.specs.Internal.Rotations.{Overwritten}
+use Rattle.elimination_model.specs.Internal.Words.{RowWritten, RowsWritten, wordAfter, CopiedWord}
 
 -- the next of numbers below n + 1, or one before it
 pub next-or-before : (m n : ℕ) → m < n + 1 → (m ≡ n) ⊎ (m < n)
@@ -61,6 +62,18 @@ written-one b holds words x u h f =
     let low : b + 0 ≡ b = omega arith in
     let high : b + 1 + 0 ≡ b + 1 = omega arith in
     rw (low, high) at (written-more 1 b 0 holds words words x u (written-none 1 b holds words) (zero-lt-suc 0) h f)
+
+-- a row whose planes are copied one after the other
+pub planes-copied : (w b low high : ℕ) (from words words' words'' : List ℕ) → Overwritten (wordAfter from low) b w words words'
+    → Overwritten (wordAfter from high) (b + w) w words' words'' → RowWritten w b w (CopiedWord from low high) words words''
+planes-copied w b low high from words words' words'' x y =
+    record {
+      size = y .long ∙ x .long;
+      before = λ p l. y .before p (omega arith) ∙ x .before p l;
+      low = λ p l h. absurd (omega arith);
+      high = λ p l. y .after p l ∙ x .after p (omega arith);
+      is = λ m l. (y .before (b + m) (omega arith) ∙ x .at m l, y .at m l);
+    }
 
 -- what is true of the words may be said otherwise
 pub written-map : (w b n : ℕ) (holds says : ℕ → ℕ → ℕ → Type 0) (words words' : List ℕ) → RowWritten w b n holds words words'

@@ -55,9 +55,13 @@ pub record RowsWritten (w first end : ℕ) (holds : ℕ → ℕ → ℕ → ℕ 
 abbrev pub SumWord : ℕ → List ℕ → ℕ → List ℕ → ℕ → ℕ → ℕ → ℕ → Type 0
 SumWord w table a words b m x u = (k : ℕ) → tritOf x u k ≡ (wordTrit w words b m k + wordTrit w table a m k) % 3
 
+-- word m after a place of a string of words
+abbrev pub wordAfter : List ℕ → ℕ → ℕ → ℕ
+wordAfter words a m = getD words (a + m) 0
+
 -- x and u are words m after two places of a string of words
 abbrev pub CopiedWord : List ℕ → ℕ → ℕ → ℕ → ℕ → ℕ → Type 0
-CopiedWord words low high m x u = (x ≡ getD words (low + m) 0) × (u ≡ getD words (high + m) 0)
+CopiedWord words low high m x u = (x ≡ wordAfter words low m) × (u ≡ wordAfter words high m)
 
 -- x and u have the digits of word m of row i of the rows a, f words to a plane, each carrying itself alone; a trit with both bits set counts as 0
 abbrev pub LoadedWord : ℕ → (ℕ → ℕ → ℕ) → ℕ → ℕ → ℕ → ℕ → Type 0

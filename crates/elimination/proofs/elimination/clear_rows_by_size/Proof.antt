@@ -28,22 +28,10 @@ returns-4 : tie.Need-returns-4
 returns-4 c = rw (c .before .before .before .before .if4 .taken) (c .before .before .clear-rows4 .ensures)
 
 clear-rows-requires-5 : tie.Need-clear-rows-requires-5
-clear-rows-requires-5 c κs = rw (c .before .if5 .taken) at (c .before .before .before .before .before .before .before .before .pre)
+clear-rows-requires-5 c κs = c .before .before .before .before .before .before .before .pre
 
 returns-5 : tie.Need-returns-5
-returns-5 c = rw (c .before .before .before .before .if5 .taken) (c .before .before .clear-rows5 .ensures)
-
-clear-rows-requires-6 : tie.Need-clear-rows-requires-6
-clear-rows-requires-6 c κs = rw (c .before .if6 .taken) at (c .before .before .before .before .before .before .before .before .before .pre)
-
-returns-6 : tie.Need-returns-6
-returns-6 c = rw (c .before .before .before .before .if6 .taken) (c .before .before .clear-rows6 .ensures)
-
-clear-rows-requires-7 : tie.Need-clear-rows-requires-7
-clear-rows-requires-7 c κs = c .before .before .before .before .before .before .before .before .before .pre
-
-returns-7 : tie.Need-returns-7
-returns-7 c = c .before .before .clear-rows7 .ensures
+returns-5 c = c .before .before .clear-rows5 .ensures
 
 pub clear-rows-by-size-spec : {M : Type 1} → statement M
 clear-rows-by-size-spec =
@@ -63,10 +51,4 @@ clear-rows-by-size-spec =
     returns-4
     clear-rows-requires-5
     (λ c. omega arith)
-    returns-5
-    clear-rows-requires-6
-    (λ c. omega arith)
-    returns-6
-    clear-rows-requires-7
-    (λ c. omega arith)
-    returns-7)
+    returns-5)

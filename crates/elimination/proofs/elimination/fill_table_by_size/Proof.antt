@@ -10,16 +10,10 @@ returns : tie.Need-returns
 returns c = rw (c .before .before .before .before .if1 .taken) (c .before .before .fill-table .ensures)
 
 fill-table-requires-2 : tie.Need-fill-table-requires-2
-fill-table-requires-2 c κs = rw (c .before .if2 .taken) at (c .before .before .before .before .before .pre)
+fill-table-requires-2 c κs = c .before .before .before .before .pre
 
 returns-2 : tie.Need-returns-2
-returns-2 c = rw (c .before .before .before .before .if2 .taken) (c .before .before .fill-table2 .ensures)
-
-fill-table-requires-3 : tie.Need-fill-table-requires-3
-fill-table-requires-3 c κs = c .before .before .before .before .before .pre
-
-returns-3 : tie.Need-returns-3
-returns-3 c = c .before .before .fill-table3 .ensures
+returns-2 c = c .before .before .fill-table2 .ensures
 
 pub fill-table-by-size-spec : {M : Type 1} → statement M
 fill-table-by-size-spec =
@@ -30,7 +24,4 @@ fill-table-by-size-spec =
     returns
     fill-table-requires-2
     (λ c. omega arith)
-    returns-2
-    fill-table-requires-3
-    (λ c. omega arith)
-    returns-3)
+    returns-2)

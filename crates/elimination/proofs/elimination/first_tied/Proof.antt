@@ -1,17 +1,19 @@
 -- `elimination::elimination::first_tied` meets its contract. The invariant of its loop: r rows have had their turn, and what rows
 -- carry is still right.
 use mathlib.Core.Path.{_≡_, refl, _∙_}
+use mathlib.Core.List.{List}
+use mathlib.Core.Logic.{⊎-elim}
 use Prim.Native.Nat.{ℕ, _+_, _-_, _*_, _<_, _≤_}
 use native.Mathlib.Nat.{le-refl}
 use native.Mathlib.Omega.{arith}
 use lib.ListN.{length}
 use Rattle.elimination_model.specs.Internal.Elimination.{Carried}
-use Rattle.elimination_model.specs.Internal.Words.{digitAt, carriedAt, FitRows, Table}
+use Rattle.elimination_model.specs.Internal.Words.{digitAt, carriedAt, FitRows, RowsWritten, ClearedWord, Table, Pivot}
 use Rattle.linear_model.proofs.Strings.{length-zeros}
 use Rattle.elimination_model.proofs.Elimination.{Reduced, reduced-none, reduced-untied, reduced-zero}
 use Rattle.elimination_model.proofs.Internal.Writing.{rows-apart}
-use Rattle.elimination_model.proofs.Internal.Tables.{zero-table}
-use Rattle.elimination_model.proofs.Internal.Turns.{column-pivot, cleared-fit, turn-reduced, turn-carried, turn-zero}
+use Rattle.elimination_model.proofs.Internal.Tables.{zero-table, multiples-table}
+use Rattle.elimination_model.proofs.Internal.Turns.{pivot-row, pivot-digit, column-pivot, cleared-fit, turn-reduced, turn-carried, turn-zero}
 use Rattle.elimination.proofs.elimination.first_tied.Statement.{statement}
 use Rattle.elimination.proofs.elimination.first_tied.Tie as tie
 
@@ -57,28 +59,96 @@ returns c =
       carried = l .loop .inv .6;
     }
 
+-- row r is not 0 in the column that was found
+pivot : (c : tie.Else1 Inv-loop μ-loop)
+    → (let n = c .before .before in let l = n .before .before .before in let a = l .before .before .args in
+    Pivot (a .w) (a .t) (l .loop .r) (n .nonzero-column .result .word) (n .nonzero-column .result .bit) (l .loop .words))
+pivot c =
+    let n = c .before .before in
+    let l = n .before .before .before in
+    column-pivot _ _ _ _ _ _ _ (l .loop .inv .2) (omega arith) (l .before .before .pre .1) (n .nonzero-column .ensures) (omega arith)
+
+-- where the words to a plane are written out
+pivot-of-two : (c : tie.Then2 Inv-loop μ-loop)
+    → (let n = c .before .before .before in let l = n .before .before .before in
+    Pivot 2 (l .before .before .args .t) (l .loop .r) (n .nonzero-column .result .word) (n .nonzero-column .result .bit) (l .loop .words))
+pivot-of-two c = rw (c .if2 .taken) at (pivot (c .before))
+
+pivot-of-four : (c : tie.Then3 Inv-loop μ-loop)
+    → (let n = c .before .before .before .before in let l = n .before .before .before in
+    Pivot 4 (l .before .before .args .t) (l .loop .r) (n .nonzero-column .result .word) (n .nonzero-column .result .bit) (l .loop .words))
+pivot-of-four c = rw (c .if3 .taken) at (pivot (c .before .before))
+
+digit-in-requires : tie.Need-digit-in-requires Inv-loop μ-loop
+digit-in-requires c κs = let p = pivot-of-two (c .before) in (pivot-row _ _ _ _ _ _ p .long, p .inside, p .small)
+
+fill-table-requires : tie.Need-fill-table-requires Inv-loop μ-loop
+fill-table-requires c κs =
+    let b = c .before .before .before .before in
+    let p = pivot-of-two b in
+    let d = pivot-digit _ _ _ _ _ _ p _ (c .before .before .digit-in .ensures) in
+    (pivot-row _ _ _ _ _ _ p, d .0, d .1, rw (b .if2 .taken) at (b .before .before .before .before .before .before .loop .inv .3))
+
+clear-rows-requires : tie.Need-clear-rows-requires Inv-loop μ-loop
+clear-rows-requires c κs =
+    let f = c .before .before .before in
+    record {
+      pivot = pivot-of-two (f .before .before .before .before .before);
+      multiples = rw (f .before .before .before .digit-in .ensures) at (f .fill-table .ensures);
+    }
+
+digit-in-requires-2 : tie.Need-digit-in-requires-2 Inv-loop μ-loop
+digit-in-requires-2 c κs = let p = pivot-of-four (c .before) in (pivot-row _ _ _ _ _ _ p .long, p .inside, p .small)
+
+fill-table-requires-2 : tie.Need-fill-table-requires-2 Inv-loop μ-loop
+fill-table-requires-2 c κs =
+    let b = c .before .before .before .before in
+    let p = pivot-of-four b in
+    let d = pivot-digit _ _ _ _ _ _ p _ (c .before .before .digit-in2 .ensures) in
+    (pivot-row _ _ _ _ _ _ p, d .0, d .1, rw (b .if3 .taken) at (b .before .before .before .before .before .before .before .loop .inv .3))
+
+clear-rows-requires-2 : tie.Need-clear-rows-requires-2 Inv-loop μ-loop
+clear-rows-requires-2 c κs =
+    let f = c .before .before .before in
+    record {
+      pivot = pivot-of-four (f .before .before .before .before .before);
+      multiples = rw (f .before .before .before .digit-in2 .ensures) at (f .fill-table2 .ensures);
+    }
+
 take-turn-requires : tie.Need-take-turn-requires Inv-loop μ-loop
 take-turn-requires c κs =
-    let l = c .before .before .before .before .before .before .before in (
-      column-pivot _ _ _ _ _ _ _ (l .loop .inv .2) (omega arith) (l .before .before .pre .1) (c .before .before .before .before .nonzero-column .ensures) (omega arith),
-      l .loop .inv .3,
-    )
+    let b = c .before .before .before .before in
+    (pivot b, b .before .before .before .before .before .loop .inv .3)
+
+-- the rows after row r are cleared, and the table has its zero entry
+abbrev Turned : (w t r word bit : ℕ) (words words' table : List ℕ) → Type 0
+Turned w t r word bit words words' table =
+    RowsWritten w (r + 1) t (ClearedWord w r word bit words) words words' × Table w table × (length table ≡ 66)
+
+turned : (c : tie.Joined2 Inv-loop μ-loop)
+    → (let n = c .before .before .before in let l = n .before .before .before in let a = l .before .before .args in
+    Turned (a .w) (a .t) (l .loop .r) (n .nonzero-column .result .word) (n .nonzero-column .result .bit) (l .loop .words) (c .if2 .words) (c .if2 .table))
+turned c =
+    ⊎-elim (λ x. rw (x .0 .taken, x .12, x .13) (x .9 .ensures, multiples-table _ _ _ _ _ (x .5 .ensures), omega arith))
+    (⊎-elim (λ x. rw (x .1 .taken, x .13, x .14) (x .10 .ensures, multiples-table _ _ _ _ _ (x .6 .ensures), omega arith))
+    (λ x. rw (x .8, x .9) (x .4 .ensures .0, x .4 .ensures .1, omega arith)))
+    (c .if2 .came)
 
 loop-again : tie.Need-loop-again Inv-loop μ-loop
 loop-again c =
-    let n = c .before .before .before .before .before .before .before .before in
+    let n = c .before .before .before in
     let l = n .before .before .before in
     let s = l .before .before in
     let g : l .loop .r < s .args .t = omega arith in
     let h : n .nonzero-column .result .word < s .args .f = omega arith in
-    let p = column-pivot _ _ _ _ _ _ _ (l .loop .inv .2) g (s .pre .1) (n .nonzero-column .ensures) h in
-    let e = c .before .before .before .take-turn .ensures in (
+    let p = pivot (c .before) in
+    let e = turned c in (
       omega arith,
       e .0 .size ∙ l .loop .inv .1,
       cleared-fit _ _ _ _ _ _ _ (l .loop .inv .2) g (e .0),
       e .1,
       turn-reduced _ _ _ _ _ _ (l .loop .words) _ (s .pre .1) h p (e .0) (s .args .words .now) (l .loop .inv .4),
-      omega arith,
+      e .2,
       λ a r x. turn-carried _ _ _ _ _ _ (l .loop .words) _ (s .pre .1) h p (e .0) a r (l .loop .inv .6 a r x),
     )
 
@@ -108,6 +178,20 @@ first-tied-spec =
     nonzero-column-requires
     (λ c. omega arith)
     returns
+    (λ c. omega (arith, pivot-row _ _ _ _ _ _ (pivot-of-two (c .before)) .long))
+    digit-in-requires
+    (λ c. omega (arith, pivot-row _ _ _ _ _ _ (pivot-of-two (c .before .before .before)) .long))
+    (λ c. omega arith)
+    fill-table-requires
+    (λ c. omega arith)
+    clear-rows-requires
+    (λ c. omega (arith, pivot-row _ _ _ _ _ _ (pivot-of-four (c .before)) .long))
+    digit-in-requires-2
+    (λ c. omega (arith, pivot-row _ _ _ _ _ _ (pivot-of-four (c .before .before .before)) .long))
+    (λ c. omega arith)
+    fill-table-requires-2
+    (λ c. omega arith)
+    clear-rows-requires-2
     (λ c. omega arith)
     take-turn-requires
     (λ c. omega arith)
