@@ -69,7 +69,8 @@ fn fill_table(words: &[u64], a: usize, w: usize, p: usize, table: &mut [u64])
     put_row(words, a + w, a, table, 2 * w * p, w);
 }
 
-// The same. One word is written out, so that it gets code of its own; for longer rows filling is little beside clearing.
+// The same. One word is written out, so that it gets code of its own; two and four do not come here (`first_tied`), and for longer rows filling
+// is little beside clearing.
 fn fill_table_by_size(words: &[u64], a: usize, w: usize, p: usize, table: &mut [u64])
     requires { ⌜ FitRow w (now words) a × (0 < p) × (p < 3) × Table w (now table) ⌝ }
     ensures { λ _. ⌜ Multiples w (now (words .entry)) a p (now (table .exit)) ⌝ }
@@ -174,7 +175,7 @@ fn take_turn(words: &mut [u64], table: &mut [u64], w: usize, t: usize, r: usize,
 
 // The first of `t` rows that is tied to the rows before it in the columns of the first `f` words; `t` if there is none. What the rows carry
 // behind these words is added with them. Turns of two and four words to a plane are written out here, where the compiler sees that `table`
-// is apart from `words`: it copies two words to it at once, as the sums read them, and they need not wait.
+// is apart from `words`: it copies two words at once, so that the sums, which read two at once, need not wait for single ones.
 pub fn first_tied(words: &mut [u64], w: usize, f: usize, t: usize) -> usize
     requires { ⌜ (w ≤ 11) × (f ≤ w) × FitRows w t (now words) ⌝ }
     ensures { λ r. ⌜ FirstTied w f t (now (words .entry)) (now (words .exit)) r ⌝ }

@@ -1,3 +1,4 @@
 pub mod Independence
 pub mod Tie
+pub mod AnySize
 pub mod Internal

@@ -15,7 +15,7 @@ unfoldable pub leastPassing : ℕ → (ℕ → Bool) → ℕ
 leastPassing zero test = 0
 leastPassing (suc n) test = cond (test 0) 0 (suc (leastPassing n (λ i. test (suc i))))
 
--- the first list of t digits that passes a test, counted like `someChoice`; an empty one if none does
+-- the first list of t digits that passes a test, in the order in which `someChoice` tries them; an empty one if none does
 unfoldable pub firstChoice : ℕ → (List ℕ → Bool) → List ℕ
 firstChoice zero test = []
 firstChoice (suc t) test =
@@ -27,7 +27,7 @@ firstChoice (suc t) test =
 abbrev pub shortest : ℕ → ℕ → (ℕ → ℕ → ℕ) → ℕ
 shortest n t a = leastPassing t (λ k. tied n k a)
 
--- digit i is not 0 modulo 3
+-- digit i is not 0 modulo 3 (`zeroAt` is of the number itself)
 abbrev pub nonzeroAt : (ℕ → ℕ) → ℕ → Bool
 nonzeroAt d i = not (eqb (d i % 3) 0)
 

@@ -29,7 +29,8 @@ pub fn add_row(table: &[u64], a: usize, words: &mut [u64], b: usize, w: usize)
     }
 }
 
-// Copies `n` words, from word `a` on, to `table` from word `e` on. A loop for one plane alone is one that the compiler takes for a copy.
+// Copies `n` words, from word `a` on, to `table` from word `e` on: one plane at a time, so that the compiler can make it a copy where it sees
+// both slices apart.
 fn copy_words(words: &[u64], a: usize, table: &mut [u64], e: usize, n: usize)
     requires { ⌜ (a + n ≤ length (now words)) × (e + n ≤ length (now table)) ⌝ }
     ensures { λ _. ⌜ Overwritten (wordAfter (now (words .entry)) a) e n (now (table .entry)) (now (table .exit)) ⌝ }

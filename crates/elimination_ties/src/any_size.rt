@@ -6,11 +6,12 @@ ghost use lib.ListN.{length};
 ghost use Rattle.numbers.specs.Number.{atFront};
 ghost use Rattle.elimination_model.specs.Independence.{tritAt};
 ghost use Rattle.elimination_model.specs.Tie.{entryCount, tieBytes};
-ghost use Rattle.elimination_model.specs.Internal.Words.{Room};
+ghost use Rattle.elimination_model.specs.AnySize.{Room};
 use crate::ties::put_tie;
 use elimination_rows::loading::load_rows_by_size;
 
-// Whether there is no room for `t` rows of `bytes` bytes to a plane in slices of these lengths.
+// Whether there is no room for `t` rows of `bytes` bytes to a plane in slices of these lengths. `first_tied` takes eleven words to a plane; 88
+// bytes are as many, and with no more bytes or rows than here no product is too large.
 fn lacks_room(bytes: usize, t: usize, rows: usize, words: usize, n: usize) -> bool
     ensures { λ r. ⌜ (r ≡ false → Room bytes t rows words n) × (r ≡ true → Room bytes t rows words n → ⊥) ⌝ }
 {
@@ -40,7 +41,7 @@ fn lacks_room(bytes: usize, t: usize, rows: usize, words: usize, n: usize) -> bo
 }
 
 // Writes the tie of `t` rows of `bytes` bytes to a plane, and says how many entries it has: none where the rows are not tied, or where there
-// is no room. What is left in the words is not said.
+// is no room, and then nothing is written. Where there is room, what is left in the words is not said.
 #[no_mangle]
 pub extern "C" fn tie_of_rows(
     rows: &[u8],
@@ -56,7 +57,7 @@ pub extern "C" fn tie_of_rows(
         ⌝ }
     ensures no_room { λ r. ⌜
         ((Room bytes t (length (now (rows .entry))) (length (now (words .entry))) (length (now (out .entry))) → ⊥)
-        → (r ≡ 0) × (now (out .exit) ≡ now (out .entry)))
+        → (r ≡ 0) × (now (words .exit) ≡ now (words .entry)) × (now (out .exit) ≡ now (out .entry)))
         ⌝ }
 {
     if lacks_room(bytes, t, rows.len(), words.len(), out.len()) {

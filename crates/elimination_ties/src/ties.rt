@@ -27,7 +27,7 @@ fn carried_digit(words: &[u64], w: usize, f: usize, r: usize, k: usize) -> usize
     )
 }
 
-// The first digit other than 0 of that combination, which has row `r` itself.
+// The first digit other than 0 of that combination, in which that of row `r` itself is not 0.
 fn leading_digit(words: &[u64], w: usize, f: usize, r: usize) -> usize
     requires { ⌜ CarryingRow w f r (now words) × (carriedAt w f (now words) r r % 3 ≢ 0) ⌝ }
     ensures { λ d. ⌜ d ≡ leadingDigit (suc r) (carriedAt w f (now (words .entry)) r) ⌝ }

@@ -1,4 +1,5 @@
-// The list of the rows of a matrix file that are tied, for any layout that fits, with room for the elimination. A refusal writes nothing.
+// The list of the rows of a matrix file that are tied, for any layout that fits, with room for the elimination and for what rows carry in it.
+// A refusal writes nothing.
 ghost use mathlib.Core.Path.{_≡_};
 ghost use Prim.Native.Nat.{_*_};
 ghost use lib.ListN.{length, take};

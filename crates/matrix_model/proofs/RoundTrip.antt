@@ -56,13 +56,13 @@ module _ (layout : Layout) (fits : Fits layout) (set : List ℕ) (h : length set
   unfolding fileFrom
   length-file = length-tabulate (fileSize layout) (fileByte layout set)
 
-  no-bad-check : badCheckOf layout (fileFrom layout set) ≡ false
+  pub no-bad-check : badCheckOf layout (fileFrom layout set) ≡ false
   unfolding badCheckOf
   no-bad-check =
       ap not (every-true (blockCount layout) (checkedBlock (fileFrom layout set))
       (λ b l. ap checkHolds (block-of-file layout fits set h b l) ∙ written-check layout fits set h b l))
 
-  no-bad-layout : badLayoutOf layout (fileFrom layout set) ≡ false
+  pub no-bad-layout : badLayoutOf layout (fileFrom layout set) ≡ false
   unfolding badLayoutOf
   no-bad-layout =
       ap not (every-true (blockCount layout) (laidOutBlock layout (fileFrom layout set))

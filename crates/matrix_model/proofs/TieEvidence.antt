@@ -85,7 +85,7 @@ pub with-row-other : (r : ℕ) (row : ℕ → ℕ) (i j : ℕ) → i ≢ r → w
 with-row-other r row i j h = ap (λ (b : Bool). cond b (row j) (oneAt i j)) (ne-eqb i r h)
 
 -- the diagonal with a combination of the other rows in place of row r is tied
-with-row-tied : (n t r : ℕ) (d : ℕ → ℕ) → r < t → Combination t r d → tied n t (withRow r d) ≡ true
+pub with-row-tied : (n t r : ℕ) (d : ℕ → ℕ) → r < t → Combination t r d → tied n t (withRow r d) ≡ true
 with-row-tied n t r d l c = combination-tied n t r (withRow r d) d l (c .others) (λ k _. ap (λ (x : ℕ). x % 3) (with-row-own r d k ∙ sym (total k)))
   where
     -- row r counts for nothing, since its digit is 0

@@ -2,14 +2,14 @@
 use Prim.Native.Nat.{ℕ, suc, _+_, _*_, _%_, _<_, _≤_, zero-le}
 use mathlib.Core.Path.{_≡_, refl, sym, ap, ap₂, _∙_}
 use mathlib.Core.List.{List, [], _∷_}
-use mathlib.Core.Bool.{Bool, true, false, cond}
+use mathlib.Core.Bool.{Bool, true, false, cond, not}
 use mathlib.Core.Logic.{_≢_}
-use native.Mathlib.Nat.{mul-zero}
+use native.Mathlib.Nat.{le-refl, mul-zero}
 use native.Mathlib.Decide.{decLt}
 use native.Mathlib.Omega.{arith}
-use borrow.Author.Tests.{eq-eqb, ne-eqb}
+use borrow.Author.Tests.{eq-eqb, ne-eqb, le-ltb}
 use lib.Dec.{eqb, ltb, lit<, lit≤}
-use lib.ListN.{drop, getD}
+use lib.ListN.{length, drop, getD}
 use Rattle.linear_model.specs.Tables.{sum, every, tabulate, oneAt}
 use Rattle.linear_model.proofs.Tables.{every-at, one-elsewhere}
 use Rattle.linear_model.proofs.Sums.{sum-ext, sum-zero}
@@ -19,14 +19,17 @@ use Rattle.elimination_model.proofs.Independence.{combined-one, tied-congr}
 use Rattle.elimination_model.proofs.Elimination.{diagonal-untied}
 use Rattle.elimination_model.proofs.TieBytes.{combination-tie}
 use Rattle.matrix_model.specs.Block.{Layout}
-use Rattle.matrix_model.specs.File.{rowPlaneOf, layoutOf, matrixB}
+use Rattle.matrix_model.specs.File.{Fits, fileSize, fileFrom, rowPlaneOf, layoutOf, matrixB}
 use Rattle.matrix_model.specs.Sample.{packedRows}
-use Rattle.matrix_model.specs.Ties.{tieOf}
+use Rattle.matrix_model.specs.Ties.{tieOf, tieSize}
 use Rattle.matrix_model.specs.TieEvidence.{withRow, Combination, timesRowThree, sumBefore, lastRowTied}
-use Rattle.matrix_model.specs.TiedRowsEvidence.{withTwo, entriesWith, ListedRow, rowOneAndSix, twoTies, TiedRowsEvidence}
-use Rattle.matrix_model.proofs.PackedRows.{packed-tie}
+use Rattle.matrix_model.specs.TiedRowsEvidence.{withTwo, entriesWith, tieNumberOfRows, ListedRow, rowOneAndSix, rowsZeroAnd160, twoTies, TiedRowsEvidence}
+use Rattle.numbers.specs.Number.{first}
+use Rattle.matrix_model.proofs.Layouts.{first-fits, second-fits, third-fits}
+use Rattle.matrix_model.proofs.RoundTrip.{rows-of-file, length-file, no-bad-check, no-bad-layout}
+use Rattle.matrix_model.proofs.PackedRows.{length-packed, packed-fit, packed-tied, packed-tie}
 use Rattle.matrix_model.proofs.Sample.{one-at-small}
-use Rattle.matrix_model.proofs.TieEvidence.{diagonal-combined, with-row-small, with-row-own, with-row-other, row-three, all-before}
+use Rattle.matrix_model.proofs.TieEvidence.{diagonal-combined, with-row-small, with-row-own, with-row-other, with-row-tied, row-three, all-before}
 
 -- ---- rows of any digits
 
@@ -62,16 +65,43 @@ module _ (r : ℕ) (digits : ℕ → ℕ) where
         ap₂ _*_ two-own (with-row-own r digits j),
       )
 
--- so these digits are the list, in each layout with no more rows than columns
-listed-row : (layout : Layout) → layout .rowBytes % 2 ≡ 0 → layout .rowCount ≤ 8 * rowPlaneOf layout → ListedRow layout
-listed-row layout e h r digits l c =
-    packed-tie layout e (withRow r digits) (with-row-small r digits (c .small))
-    ∙ diagonal-list (8 * rowPlaneOf layout) (layout .rowCount) r (withRow r digits) (withTwo r digits) l (omega arith)
-    (λ i j u. with-row-other r digits i j (omega arith)) (two-adds r digits (8 * rowPlaneOf layout) c) (λ z. omega (arith, two-own r digits))
+-- ---- files
+
+module _ (layout : Layout) (fits : Fits layout) where
+  -- ties decide the number of the file of rows of any digits
+  number-by-ties : (f : ℕ → ℕ → ℕ) → ((i j : ℕ) → f i j < 3)
+      → tieNumberOfRows layout f ≡ cond (not (tied (8 * rowPlaneOf layout) (layout .rowCount) f)) 16 0
+  unfolding first
+  number-by-ties f small =
+      let rows = packedRows layout f in
+      let long = length-packed layout f in
+      rw (eq-eqb (length (fileFrom layout rows)) (fileSize layout) (length-file layout fits rows long), le-ltb (tieSize layout) (tieSize layout) (le-refl (tieSize layout)), no-bad-check layout fits rows long, no-bad-layout layout fits rows long, rows-of-file layout fits rows long, packed-fit layout (fits .two-planes) f small, packed-tied layout (fits .two-planes) f small)
+
+  module _ (columns : layout .rowCount ≤ 8 * rowPlaneOf layout) where
+    -- so that of the diagonal is 16
+    fit-number : tieNumberOfRows layout oneAt ≡ 16
+    fit-number =
+        number-by-ties oneAt one-at-small
+        ∙ ap (λ (b : Bool). cond (not b) 16 0) (diagonal-untied (8 * rowPlaneOf layout) (layout .rowCount) columns)
+
+    -- and with a combination of the rows before it in place of row r it is 0, and these digits are the list
+    listed-row : ListedRow layout
+    listed-row r digits l c = (
+      number-by-ties (withRow r digits) small
+          ∙ ap (λ (b : Bool). cond (not b) 16 0)
+          (with-row-tied (8 * rowPlaneOf layout) (layout .rowCount) r digits l
+          (record { small = c .small; others = c .others; within = λ j u. c .within j (omega arith) })),
+      packed-tie layout (fits .two-planes) (withRow r digits) small
+          ∙ diagonal-list (8 * rowPlaneOf layout) (layout .rowCount) r (withRow r digits) (withTwo r digits) l (omega arith)
+          (λ i j u. with-row-other r digits i j (omega arith)) (two-adds r digits (8 * rowPlaneOf layout) c) (λ z. omega (arith, two-own r digits)),
+    )
+      where
+        small : (i j : ℕ) → withRow r digits i j < 3
+        small = with-row-small r digits (c .small)
 
 -- as in set 1
 first-listed : ListedRow matrixB
-first-listed = listed-row matrixB refl (lit≤ tt)
+first-listed = listed-row matrixB first-fits (lit≤ tt)
 
 -- ---- its examples
 
@@ -87,13 +117,29 @@ one-and-six = record { small = λ j. small j (decLt j 7); others = refl; within 
     small j (yes l) = lit< (every-at 7 (λ i. ltb (rowOneAndSix i) 3) tt j l)
     small j (no l) = omega (arith, after j (omega arith))
 
+-- row 0 plus row 160 is one of the rows before row 161
+zero-and-160 : Combination 161 161 rowsZeroAnd160
+unfolding every
+zero-and-160 = record { small = λ j. small j (decLt j 161); others = refl; within = after }
+  where
+    after : (j : ℕ) → 161 ≤ j → rowsZeroAnd160 j ≡ 0
+    after j u = ap₂ _+_ (one-elsewhere 0 j (omega arith)) (one-elsewhere 160 j (omega arith))
+
+    small : (j : ℕ) → Dec (j < 161) → rowsZeroAnd160 j < 3
+    small j (yes l) = lit< (every-at 161 (λ i. ltb (rowsZeroAnd160 i) 3) tt j l)
+    small j (no l) = omega (arith, after j (omega arith))
+
+-- row 0 is one of the rows before row 20
+zero-before : Combination 20 20 (oneAt 0)
+zero-before = record { small = one-at-small 0; others = refl; within = λ j u. one-elsewhere 0 j (omega arith) }
+
 -- a zero row is a combination, with the digits 0
 zero-combination : Combination 4 4 (λ _. 0)
 zero-combination = record { small = λ j. lit< tt; others = refl; within = λ j u. refl }
 
 -- row 80 the sum of all before it
 last-listed : tieOf matrixB lastRowTied ≡ entriesWith 80 sumBefore
-last-listed = first-listed 80 sumBefore (lit< tt) (all-before 80 (lit≤ tt))
+last-listed = first-listed 80 sumBefore (lit< tt) (all-before 80 (lit≤ tt)) .1
 
 -- rows 0 and 1 are the diagonal's and row 2 is zero, so row 2 alone is the tie
 shorter-list : tieOf matrixB (packedRows matrixB twoTies) ≡ 2 ∷ 1 ∷ []
@@ -132,12 +178,17 @@ unfolding entriesFrom tabulate leastPassing tied someChoice every
 tied-rows-evidence =
     record {
       listed1 = first-listed;
-      listed2 = listed-row (layoutOf 2) refl (lit≤ tt);
-      listed3 = listed-row (layoutOf 3) refl (lit≤ tt);
-      twice = first-listed 5 (timesRowThree 2) (lit< tt) (row-three 5 2 (lit< tt) (lit< tt));
-      once = first-listed 5 (timesRowThree 1) (lit< tt) (row-three 5 1 (lit< tt) (lit< tt));
-      three = first-listed 7 rowOneAndSix (lit< tt) one-and-six;
-      zeroRow = first-listed 4 (λ _. 0) (lit< tt) zero-combination;
+      listed2 = listed-row (layoutOf 2) second-fits (lit≤ tt);
+      listed3 = listed-row (layoutOf 3) third-fits (lit≤ tt);
+      twice = first-listed 5 (timesRowThree 2) (lit< tt) (row-three 5 2 (lit< tt) (lit< tt)) .1;
+      once = first-listed 5 (timesRowThree 1) (lit< tt) (row-three 5 1 (lit< tt) (lit< tt)) .1;
+      three = first-listed 7 rowOneAndSix (lit< tt) one-and-six .1;
+      zeroRow = first-listed 4 (λ _. 0) (lit< tt) zero-combination .1;
+      second = listed-row (layoutOf 2) second-fits (lit≤ tt) 20 (oneAt 0) (lit< tt) zero-before .1;
+      third = listed-row (layoutOf 3) third-fits (lit≤ tt) 161 rowsZeroAnd160 (lit< tt) zero-and-160 .1;
+      fit1 = fit-number (layoutOf 1) first-fits (lit≤ tt);
+      fit2 = fit-number (layoutOf 2) second-fits (lit≤ tt);
+      fit3 = fit-number (layoutOf 3) third-fits (lit≤ tt);
       count = ap entryCount last-listed;
       end = ap (drop 158) last-listed;
       shorter = shorter-list;

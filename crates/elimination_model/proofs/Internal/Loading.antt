@@ -20,7 +20,7 @@ use Rattle.linear_model.proofs.Strings.{bit-drop}
 use Rattle.elimination_model.specs.Independence.{tied, tritAt}
 use Rattle.elimination_model.specs.Tie.{tieBytes}
 use Rattle.elimination_model.specs.Internal.Words.{digitAt, FitRows, RowWritten, RowsWritten, LoadedWord, rowsAfter, FirstTied, Carrying}
-use Rattle.elimination_model.specs.Internal.Elimination.{carrying}
+use Rattle.elimination_model.specs.Internal.Elimination.{withDiagonal}
 use Rattle.elimination_model.proofs.Independence.{tied-congr, tied-more}
 use Rattle.elimination_model.proofs.TieBytes.{tie-bytes-congr}
 use Rattle.elimination_model.proofs.Internal.Writing.{written-map}
@@ -58,17 +58,17 @@ diagonal-none r m k h l = bit-at-zero k ∙ sym (one-elsewhere r (64 * m + k) (�
 -- ---- words of rows
 
 -- a column of a word of the first f, and of one behind them
-carrying-front : (f : ℕ) (a : ℕ → ℕ → ℕ) (i m k : ℕ) → m < f → k < 64 → carrying (64 * f) a i (64 * m + k) ≡ a i (64 * m + k)
-carrying-front f a i m k l h = rw (lt-ltb (64 * m + k) (64 * f) (omega arith))
+diagonal-front : (f : ℕ) (a : ℕ → ℕ → ℕ) (i m k : ℕ) → m < f → k < 64 → withDiagonal (64 * f) a i (64 * m + k) ≡ a i (64 * m + k)
+diagonal-front f a i m k l h = rw (lt-ltb (64 * m + k) (64 * f) (omega arith))
 
-carrying-behind : (f : ℕ) (a : ℕ → ℕ → ℕ) (i j : ℕ) → 64 * f ≤ j → carrying (64 * f) a i j ≡ oneAt i (j - 64 * f)
-carrying-behind f a i j l = rw (le-ltb j (64 * f) l)
+diagonal-behind : (f : ℕ) (a : ℕ → ℕ → ℕ) (i j : ℕ) → 64 * f ≤ j → withDiagonal (64 * f) a i j ≡ oneAt i (j - 64 * f)
+diagonal-behind f a i j l = rw (le-ltb j (64 * f) l)
 
 -- rows that are equal in the first n columns
-pub carrying-same : (n : ℕ) (a b : ℕ → ℕ → ℕ) (i j : ℕ) → (j < n → a i j ≡ b i j) → carrying n a i j ≡ carrying n b i j
-carrying-same n a b i j e = go (decLt j n)
+pub diagonal-same : (n : ℕ) (a b : ℕ → ℕ → ℕ) (i j : ℕ) → (j < n → a i j ≡ b i j) → withDiagonal n a i j ≡ withDiagonal n b i j
+diagonal-same n a b i j e = go (decLt j n)
   where
-    go : Dec (j < n) → carrying n a i j ≡ carrying n b i j
+    go : Dec (j < n) → withDiagonal n a i j ≡ withDiagonal n b i j
     go (yes l) = rw (lt-ltb j n l) (e l)
     go (no l) = rw (le-ltb j n (omega arith))
 
@@ -83,7 +83,7 @@ loaded-front bytes rows i f r m at x u s z h e p q g = (
       ∙ ap₂ (λ (y v : ℕ). (y + 2 * v) % 3)
       (word-bit-at rows (8 * (at + 8 * m)) x p k l ∙ ap (bit rows) (omega arith) ∙ sym (bit-drop (2 * bytes * i) rows (64 * m + k)))
       (word-bit-at rows (8 * (at + bytes + 8 * m)) u q k l ∙ ap (bit rows) (omega arith) ∙ sym (bit-drop (2 * bytes * i) rows (8 * bytes + (64 * m + k))))
-      ∙ ap (λ (n : ℕ). n % 3) (sym (carrying-front f (λ _. tritAt bytes rows i) r m k h l)),
+      ∙ ap (λ (n : ℕ). n % 3) (sym (diagonal-front f (λ _. tritAt bytes rows i) r m k h l)),
   λ k. rw (g k) (mod-lt (tritOf x u k) (zero-lt-suc 2)),
 )
 
@@ -93,7 +93,7 @@ loaded-behind f a r m x h g = (
   λ k l.
       let e : 64 * (m - f) + k ≡ 64 * m + k - 64 * f = omega arith in
       low x k ∙ sym (mod-eq-of-lt (omega (arith, bit-at-lt x k)))
-      ∙ ap (λ (n : ℕ). n % 3) (g k l ∙ ap (oneAt r) e ∙ sym (carrying-behind f a r (64 * m + k) (omega arith))),
+      ∙ ap (λ (n : ℕ). n % 3) (g k l ∙ ap (oneAt r) e ∙ sym (diagonal-behind f a r (64 * m + k) (omega arith))),
   λ k. rw (low x k) (omega (arith, bit-at-lt x k)),
 )
   where
@@ -114,10 +114,10 @@ module _ (w f t : ℕ) (a : ℕ → ℕ → ℕ) (words words' : List ℕ) (x : 
   loaded-fit h = record { long = omega (arith, x .size); fit = λ i m l q k. x .is i m (omega arith) l q .1 k }
 
   -- their digits are those of the rows, and behind them the diagonal's
-  loaded-digit : (i j : ℕ) → i < t → j < 64 * w → digitAt w words' i j ≡ carrying (64 * f) a i j % 3
+  loaded-digit : (i j : ℕ) → i < t → j < 64 * w → digitAt w words' i j ≡ withDiagonal (64 * f) a i j % 3
   loaded-digit i j l k =
       let e : 64 * (j / 64) + j % 64 ≡ j = omega arith in
-      x .is i (j / 64) (omega arith) l (omega arith) .0 (j % 64) (mod-lt j (zero-lt-suc 63)) ∙ ap (λ (z : ℕ). carrying (64 * f) a i z % 3) e
+      x .is i (j / 64) (omega arith) l (omega arith) .0 (j % 64) (mod-lt j (zero-lt-suc 63)) ∙ ap (λ (z : ℕ). withDiagonal (64 * f) a i z % 3) e
 
   loaded-rows : f ≤ w → (i j : ℕ) → i < t → j < 64 * f → digitAt w words' i j % 3 ≡ a i j % 3
   loaded-rows h i j l k =
@@ -140,7 +140,7 @@ module _ (w f t : ℕ) (a : ℕ → ℕ → ℕ) (words words' : List ℕ) (x : 
         room = room;
         alone = λ i k l m.
             loaded-digit i (64 * f + k) l (omega arith)
-            ∙ ap (λ (z : ℕ). z % 3) (carrying-behind f a i (64 * f + k) (omega arith) ∙ ap (oneAt i) (omega arith))
+            ∙ ap (λ (z : ℕ). z % 3) (diagonal-behind f a i (64 * f + k) (omega arith) ∙ ap (oneAt i) (omega arith))
             ∙ mod-eq-of-lt (one-small i k);
       }
     where

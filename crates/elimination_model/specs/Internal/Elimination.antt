@@ -21,6 +21,6 @@ pub record Carried (n t : ℕ) (a b e : ℕ → ℕ → ℕ) : Type 0 where
   pub lower : (i k : ℕ) → i < t → i < k → k < t → e i k % 3 ≡ 0
   pub own : (i : ℕ) → i < t → e i i % 3 ≢ 0
 
--- the rows a of n columns, each of which carries behind them the combination that it is, itself alone
-abbrev pub carrying : ℕ → (ℕ → ℕ → ℕ) → ℕ → ℕ → ℕ
-carrying n a i j = cond (ltb j n) (a i j) (oneAt i (j - n))
+-- the rows a of n columns, and behind these the diagonal, in which each carries the combination that it is: itself alone
+abbrev pub withDiagonal : ℕ → (ℕ → ℕ → ℕ) → ℕ → ℕ → ℕ
+withDiagonal n a i j = cond (ltb j n) (a i j) (oneAt i (j - n))

@@ -8,7 +8,7 @@ use lib.ListN.{length, getD}
 use Rattle.linear_model.specs.Tables.{oneAt}
 use Rattle.linear_model.specs.Internal.Planes.{tritOf}
 use Rattle.elimination_model.specs.Independence.{tied, tritAt}
-use Rattle.elimination_model.specs.Internal.Elimination.{Carried, carrying}
+use Rattle.elimination_model.specs.Internal.Elimination.{Carried, withDiagonal}
 
 -- ---- digits
 
@@ -65,7 +65,7 @@ CopiedWord words low high m x u = (x ≡ wordAfter words low m) × (u ≡ wordAf
 
 -- x and u have the digits of word m of row i of the rows a, f words to a plane, each carrying itself alone; a trit with both bits set counts as 0
 abbrev pub LoadedWord : ℕ → (ℕ → ℕ → ℕ) → ℕ → ℕ → ℕ → ℕ → Type 0
-LoadedWord f a i m x u = ((k : ℕ) → k < 64 → tritOf x u k ≡ carrying (64 * f) a i (64 * m + k) % 3) × ((k : ℕ) → tritOf x u k < 3)
+LoadedWord f a i m x u = ((k : ℕ) → k < 64 → tritOf x u k ≡ withDiagonal (64 * f) a i (64 * m + k) % 3) × ((k : ℕ) → tritOf x u k < 3)
 
 -- rows whose planes have so many bytes, where they go to row `first` and the rows after it
 abbrev pub rowsAfter : ℕ → ℕ → List ℕ → ℕ → ℕ → ℕ
@@ -132,7 +132,7 @@ pub record FirstTied (w f t : ℕ) (words words' : List ℕ) (r : ℕ) : Type 0 
   pub carried : (a : ℕ → ℕ → ℕ) → 64 * f + t ≤ 64 * w
       → Carried (64 * f) t a (digitAt w words) (carriedAt w f words) → Carried (64 * f) t a (digitAt w words') (carriedAt w f words')
 
--- row r is there, is fit, and carries behind its first f words the digits of rows 0 to r
+-- row r is there and fit, and behind its first f words there is room for the digits of rows 0 to r
 pub record CarryingRow (w f r : ℕ) (words : List ℕ) : Type 0 where
   pub row : FitRow w words (2 * w * r)
   pub room : 64 * f + r < 64 * w
@@ -142,18 +142,3 @@ pub record Carrying (w f t : ℕ) (words : List ℕ) : Type 0 where
   pub fit : FitRows w t words
   pub room : 64 * f + t ≤ 64 * w
   pub alone : (i k : ℕ) → i < t → k < t → carriedAt w f words i k ≡ oneAt i k
-
--- ---- rows of any size
-
--- the words to a plane of t rows of so many bytes to a plane, each with the combination that it carries
-abbrev pub rowWords : ℕ → ℕ → ℕ
-rowWords bytes t = bytes / 8 + (t + 63) / 64
-
--- t rows of whole words, so many bytes to a plane, for which there is room: in all, in words, and for the list in an output slice of n bytes
-pub record Room (bytes t rows words n : ℕ) : Type 0 where
-  pub whole : bytes % 8 ≡ 0
-  pub few-words : rowWords bytes t ≤ 11
-  pub few-rows : t ≤ 256
-  pub all-rows : 2 * bytes * t ≤ rows
-  pub in-words : 2 * rowWords bytes t * t ≤ words
-  pub list : 2 * t ≤ n

@@ -110,7 +110,7 @@ module _ (layout : Layout) (file : List ℕ) (n : ℕ) where
 -- ---- the answer
 
 -- what is returned, and the slice afterwards
-abbrev pub Answered : Layout → List ℕ → List ℕ → ℕ → ℕ → List ℕ → Type 0
+abbrev Answered : Layout → List ℕ → List ℕ → ℕ → ℕ → List ℕ → Type 0
 Answered layout file old result count new =
     (result ≡ tieNumberOf layout file (length old)) × ((count ≡ reported result (entryCount (tieOfFile layout file)))
     × ((new ≡ output result (tieOfFile layout file) old) × (result ≡ 0 → OnlyTieOfFile layout file (take (2 * count) new))))

@@ -14,7 +14,7 @@ use Rattle.elimination_model.specs.Independence.{tied, tritAt}
 use Rattle.elimination_model.specs.Tie.{tieBytes}
 use Rattle.elimination_model.specs.Internal.Words.{digitAt, RowsWritten, LoadedWord, rowsAfter}
 use Rattle.elimination_model.proofs.Independence.{fails-somewhere, untied-wider}
-use Rattle.elimination_model.proofs.Internal.Loading.{carrying-same, loaded-tie}
+use Rattle.elimination_model.proofs.Internal.Loading.{diagonal-same, loaded-tie}
 use Rattle.elimination_model.proofs.Internal.Writing.{rows-join, rows-map}
 use Rattle.elimination_model.proofs.Packed.{zero-row-tied}
 use Rattle.numbers.specs.Number.{first}
@@ -82,7 +82,7 @@ loaded-more {layout} fits {set} {part} {i} {k} a w f h {words₀} {words} {words
     rows-join w 0 i (i + k) _ words₀ words words' (omega arith) (omega arith) x
     (rows-map w i (i + k) _ _ words words' y
     (λ r m x u l g q e.
-    (λ b c. e .0 b c ∙ ap (λ (j : ℕ). j % 3) (carrying-same (64 * f) (rowsAfter i n part) (tritAt n set) r (64 * m + b) (same r (64 * m + b) l g)), e .1)))
+    (λ b c. e .0 b c ∙ ap (λ (j : ℕ). j % 3) (diagonal-same (64 * f) (rowsAfter i n part) (tritAt n set) r (64 * m + b) (same r (64 * m + b) l g)), e .1)))
   where
     n : ℕ
     n = rowPlaneOf layout

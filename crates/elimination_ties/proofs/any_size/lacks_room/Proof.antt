@@ -3,7 +3,7 @@ use mathlib.Core.Bool.{false≢true, true≢false}
 use Prim.Native.Nat.{_*_, _≤_}
 use native.Mathlib.Nat.{mul-le-mul}
 use native.Mathlib.Omega.{arith}
-use Rattle.elimination_model.specs.Internal.Words.{rowWords}
+use Rattle.elimination_model.specs.AnySize.{carryingWords}
 use Rattle.elimination_ties.proofs.any_size.lacks_room.Statement.{statement}
 use Rattle.elimination_ties.proofs.any_size.lacks_room.Tie as tie
 
@@ -52,7 +52,7 @@ mul-if5-2 c =
 mul-if6-2 : tie.Need-mul-if6-2
 mul-if6-2 c =
     let a = c .before .before .before .before .before .args in
-    let h : 2 * rowWords (a .bytes) (a .t) ≤ 22 = omega arith in
+    let h : 2 * carryingWords (a .bytes) (a .t) ≤ 22 = omega arith in
     let l : a .t ≤ 256 = omega arith in
     omega (arith, mul-le-mul h l)
 

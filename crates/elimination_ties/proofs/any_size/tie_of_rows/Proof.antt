@@ -11,7 +11,7 @@ use Rattle.elimination_ties.proofs.any_size.tie_of_rows.Statement.{stat
 use Rattle.elimination_ties.proofs.any_size.tie_of_rows.Tie as tie
 
 returns : tie.Need-returns
-returns c = (λ x. absurd (c .before .lacks-room .ensures .1 (c .if1 .taken) x), λ x. (refl, refl))
+returns c = (λ x. absurd (c .before .lacks-room .ensures .1 (c .if1 .taken) x), λ x. (refl, refl, refl))
 
 add-w : tie.Need-add-w
 add-w c = omega (arith, c .before .lacks-room .ensures .0 (c .if1 .left) .few-rows)
