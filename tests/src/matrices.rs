@@ -162,7 +162,7 @@ pub fn plant(random: &mut Random, rows: &mut [Vec<u8>], terms: &[(usize, u8)]) {
 
 /// The list of rows that so multiplied add to the zero row: row number and digit of
 /// each, the rows rising and the first digit 1.
-pub fn list_of(terms: &[(usize, u8)]) -> Vec<u8> {
+pub fn list_of_terms(terms: &[(usize, u8)]) -> Vec<u8> {
     let mut rising = terms.to_vec();
     rising.sort_unstable();
     let first = rising[0].1;
@@ -174,6 +174,22 @@ pub fn small(random: &mut Random, height: usize, columns: usize) -> Rows {
     let full = 3 + random.below(5);
     let mut digit = || 2 - random.below(full).min(2) as u8;
     (0..height).map(|_| (0..columns).map(|_| digit()).collect()).collect()
+}
+
+/// Every matrix of so many rows and columns: the digits of a number each.
+fn all_of_size(height: usize, columns: usize) -> impl Iterator<Item = Rows> {
+    let size = (height * columns) as u32;
+    (0..3usize.pow(size)).map(move |number| {
+        let digits: Vec<u8> = (0..size).map(|k| (number / 3usize.pow(k) % 3) as u8).collect();
+        digits.chunks(columns).map(<[u8]>::to_vec).collect()
+    })
+}
+
+/// All matrices of few rows and few columns, as many as can be searched.
+pub fn all_small() -> impl Iterator<Item = Rows> {
+    let of_one_column = (1..=6).map(|height| (height, 1));
+    let sizes = of_one_column.chain([(1, 2), (2, 2), (3, 2), (4, 2), (2, 3), (3, 3)]);
+    sizes.flat_map(|(height, columns)| all_of_size(height, columns))
 }
 
 /// A tie among the rows of a row set: the number of the row that it changes, and that

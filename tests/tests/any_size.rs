@@ -1,6 +1,6 @@
 //! The tie of rows of any size, by the static library `elimination_ties`, beside a search
-//! through all choices of digits: matrices of few rows and few columns, and sizes for which
-//! there is no room.
+//! through all choices of digits: matrices of few rows and few columns. Then rows that carry
+//! four words, beside the reference, and sizes for which there is no room.
 
 #[cfg(missing_elimination_ties)]
 compile_error!(
@@ -9,9 +9,9 @@ compile_error!(
 );
 
 use service_pair_tests::guarded::Guarded;
-use service_pair_tests::matrices::{small, Rows};
+use service_pair_tests::matrices::{all_small, any_tie, list_of_terms, plant, small, Rows};
 use service_pair_tests::random::{report, seed, Random};
-use service_pair_tests::reference::tied_rows::{list_of, ties_by_search};
+use service_pair_tests::reference::tied_rows::{list_of_digits, tie_digits, ties_by_search};
 
 mod linked {
     #[link(name = "elimination_ties", kind = "static")]
@@ -62,26 +62,26 @@ struct Lent {
     out: usize,
 }
 
-/// Calls with slices between guards and compares every byte with this list.
-fn compare(random: &mut Random, rows: &[u8], lent: &Lent, list: &[u8]) {
+/// Calls with slices between guards and compares every byte with this list; no list stands
+/// for a call without room.
+fn compare(random: &mut Random, rows: &[u8], lent: &Lent, list: Option<&[u8]>) {
     let lent_rows = Guarded::lend(random, rows);
     let mut out = Guarded::room(random, lent.out);
+    // Without room all words stay, and else those past the slice's end.
+    let (list, changed) = list.map_or((&[][..], 0), |list| (list, lent.words));
     let expected = (lent_rows.clone(), out.after(list));
-    // Words that stand there before count for nothing; those past the slice's end stay.
+    // Words that stand there before count for nothing.
     let mut words: Vec<u64> = (0..lent.words + 4).map(|_| random.word()).collect();
-    let behind = words[lent.words..].to_vec();
+    let before = words.clone();
     let work = &mut words[..lent.words];
     let count = tie_of_rows(lent_rows.slice(), lent.bytes, lent.t, work, out.slice_mut());
     assert_eq!(count, list.len() / 2, "SEED={}", seed());
     assert_eq!((lent_rows, out), expected, "SEED={}", seed());
-    assert_eq!(words[lent.words..], behind, "SEED={}", seed());
+    assert_eq!(words[changed..], before[changed..], "SEED={}", seed());
 }
 
-/// Compares rows with the search; gives whether they are tied.
-fn compare_rows(random: &mut Random, rows: &Rows, bytes: usize) -> bool {
-    let found = ties_by_search(rows);
-    assert!(found.len() < 2, "two lists: {rows:?}");
-    let list = found.first().map_or(Vec::new(), |digits| list_of(digits));
+/// Compares rows with this list, in slices that are just long enough or longer.
+fn compare_rows(random: &mut Random, rows: &Rows, bytes: usize, list: &[u8]) {
     let t = rows.len();
     let lent = Lent {
         bytes,
@@ -89,7 +89,15 @@ fn compare_rows(random: &mut Random, rows: &Rows, bytes: usize) -> bool {
         words: words_of(bytes, t) + random.below(3),
         out: 2 * t + random.below(5),
     };
-    compare(random, &in_planes(rows, bytes), &lent, &list);
+    compare(random, &in_planes(rows, bytes), &lent, Some(list));
+}
+
+/// Compares rows with the search; gives whether they are tied.
+fn compare_searched(random: &mut Random, rows: &Rows, bytes: usize) -> bool {
+    let found = ties_by_search(rows);
+    assert!(found.len() < 2, "two lists: {rows:?}");
+    let list = found.first().map_or(Vec::new(), |digits| list_of_digits(digits));
+    compare_rows(random, rows, bytes, &list);
     !list.is_empty()
 }
 
@@ -97,14 +105,9 @@ fn compare_rows(random: &mut Random, rows: &Rows, bytes: usize) -> bool {
 fn every_matrix_of_few_rows_and_columns() {
     let mut random = Random::for_test("any size: all small matrices");
     let mut count = 0;
-    let sizes = (1..=6).map(|t| (t, 1)).chain([(1, 2), (2, 2), (3, 2), (4, 2), (2, 3), (3, 3)]);
-    for (t, columns) in sizes {
-        for number in 0..3usize.pow((t * columns) as u32) {
-            let digit = |i: usize, j: usize| number / 3usize.pow((columns * i + j) as u32) % 3;
-            let row = |i: usize| (0..columns).map(|j| digit(i, j) as u8).collect();
-            compare_rows(&mut random, &(0..t).map(row).collect(), 8);
-            count += 1;
-        }
+    for rows in all_small() {
+        compare_searched(&mut random, &rows, 8);
+        count += 1;
     }
     report("any size: all small matrices and a search", count);
 }
@@ -121,10 +124,34 @@ fn matrices_of_up_to_six_rows() {
         let bytes = 8 * words;
         let before = (64 * last).min(8 * bytes - columns);
         let moved = |row: &Vec<u8>| [vec![0; before], row.clone()].concat();
-        tied += usize::from(compare_rows(&mut random, &rows.iter().map(moved).collect(), bytes));
+        let moved = rows.iter().map(moved).collect();
+        tied += usize::from(compare_searched(&mut random, &moved, bytes));
     }
     assert!([tied, count - tied].iter().all(|times| *times > count / 10), "SEED={}", seed());
     report("any size: small matrices and a search", count);
+}
+
+/// From 193 rows on each carries four words. Random rows are not tied in so many columns:
+/// the list is the tie that is planted, as the reference finds too.
+#[test]
+fn rows_that_carry_four_words() {
+    let mut random = Random::for_test("any size: four words");
+    let (bytes, rounds, mut count) = (56, 2, 0);
+    for t in (0..rounds).flat_map(|_| [193, 230, 256]) {
+        let any = 2 + random.below(t - 1);
+        for size in [2, any, t] {
+            let mut row = || (0..8 * bytes).map(|_| random.below(3) as u8).collect();
+            let mut rows: Rows = (0..t).map(|_| row()).collect();
+            let tie = any_tie(&mut random, size, t);
+            plant(&mut random, &mut rows, &tie);
+            let found = tie_digits(&rows).map(|digits| list_of_digits(&digits));
+            let list = list_of_terms(&tie);
+            assert_eq!(found.as_ref(), Some(&list), "SEED={}", seed());
+            compare_rows(&mut random, &rows, bytes, &list);
+            count += 1;
+        }
+    }
+    report("any size: rows that carry four words", count);
 }
 
 /// Zero rows are tied, so that a call without room would be seen.
@@ -133,7 +160,7 @@ fn without_room_nothing_is_written() {
     let mut random = Random::for_test("any size: no room");
     let mut count = 0;
     let mut refused = |bytes: usize, t: usize, rows: usize, words: usize, out: usize| {
-        compare(&mut random, &vec![0; rows], &Lent { bytes, t, words, out }, &[]);
+        compare(&mut random, &vec![0; rows], &Lent { bytes, t, words, out }, None);
         count += 1;
     };
     for (bytes, t) in [(8, 1), (8, 5), (32, 81), (64, 162), (56, 200), (8, 256)] {
@@ -155,10 +182,10 @@ fn without_room_nothing_is_written() {
     for (bytes, t) in [(88, 1), (80, 65), (72, 129), (64, 193), (8, 257), (8, 300)] {
         refused(bytes, t, 2 * bytes * t, words_of(bytes, t), 2 * t);
     }
-    // With room the first of so many zero rows is the tie.
-    for (bytes, t) in [(8, 1), (8, 256), (80, 64), (64, 192), (56, 256)] {
+    // With room the first of so many zero rows is the tie; a row without columns is one too.
+    for (bytes, t) in [(0, 5), (8, 1), (8, 256), (80, 64), (64, 192), (56, 256)] {
         let lent = Lent { bytes, t, words: words_of(bytes, t), out: 2 * t };
-        compare(&mut random, &vec![0; 2 * bytes * t], &lent, &[0, 1]);
+        compare(&mut random, &vec![0; 2 * bytes * t], &lent, Some(&[0, 1]));
     }
     report("any size: no room", count);
 }

@@ -6,8 +6,8 @@ use super::matrix::matrix_check;
 use super::tied_rows::tied_rows;
 use crate::guarded::compare_counted;
 use crate::matrices::{
-    any_tie, change_digit, file_of, fit, list_of, plant, stated_lists, stated_matrix, stated_ties,
-    tie_any, uniform, Rows,
+    any_tie, change_digit, file_of, fit, list_of_terms, plant, stated_lists, stated_matrix,
+    stated_ties, tie_any, uniform, Rows,
 };
 use crate::random::{report, seed, Random};
 use crate::reference;
@@ -85,7 +85,7 @@ fn the_fast_list_is_the_planted_one() {
         for size in 1..=shape.digits {
             let (mut rows, tie) = (fit.clone(), any_tie(&mut random, size, shape.digits));
             plant(&mut random, &mut rows, &tie);
-            matrices.push((shape, rows, list_of(&tie)));
+            matrices.push((shape, rows, list_of_terms(&tie)));
         }
     }
     for (shape, rows, list) in &matrices {

@@ -7,7 +7,7 @@ use super::shape;
 use crate::reference::numbers::{DONE, NOT_TIED, TIED_ROWS, WRONG_LENGTH};
 
 /// Writes the list of a tie, whose digits are behind the first W words of a row; gives
-/// the count of rows. Turned so that the first digit is 1.
+/// the count of rows. Negated where the first digit is 2, so that it is 1.
 #[inline(always)]
 fn write_list<const W: usize, const V: usize>(tie: &Row<V>, out: &mut [u8]) -> u64 {
     let tie = match tie.first(W, V).map(|(word, bit)| tie.digit(word, bit)) {

@@ -47,7 +47,7 @@ pub fn tie_digits(rows: &[Vec<u8>]) -> Option<Vec<u8>> {
 
 /// "the row numbers, rising, and their digits": "Each row takes two bytes, row number
 /// then digit".
-pub fn list_of(digits: &[u8]) -> Vec<u8> {
+pub fn list_of_digits(digits: &[u8]) -> Vec<u8> {
     let rows = digits.iter().enumerate().filter(|(_, digit)| **digit != 0);
     rows.flat_map(|(i, digit)| [i as u8, *digit]).collect()
 }
@@ -62,7 +62,7 @@ pub fn tied_rows(shape: Shape, file: &[u8], room: usize) -> Answer {
     match lowest(&[(WRONG_LENGTH, room < shape.tie_bytes()), (number, number != DONE)]) {
         DONE => {
             let rows = digit_rows(shape, &rows_of_file(shape, file));
-            listed(list_of(&tie_digits(&rows).unwrap_or_default()))
+            listed(list_of_digits(&tie_digits(&rows).unwrap_or_default()))
         }
         number => Answer::refused(number),
     }

@@ -3,8 +3,8 @@
 
 use crate::matrix_calls::{compare_fully, compare_list, compare_tie};
 use service_pair_tests::matrices::{
-    any_tie, file_of, fit, list_of, plant, shuffled, stated_lists, tie, tie_to, uniform, Rows,
-    Terms,
+    any_tie, file_of, fit, list_of_terms, plant, shuffled, stated_lists, tie, tie_to, uniform,
+    Rows, Terms,
 };
 use service_pair_tests::random::{report, seed, Random};
 use service_pair_tests::reference::elimination::{adds_to_zero, tied};
@@ -34,14 +34,17 @@ fn stated_lists_are_written() {
     report("ties: stated lists", lists.len());
 }
 
-/// The rows so multiplied add to the zero row, and without any one of them the others
-/// are not tied, by their rank.
-fn expect_least(rows: &[Vec<u8>], tie: &[(usize, u8)]) {
+/// The rows so multiplied add to the zero row.
+fn expect_zero(rows: &[Vec<u8>], tie: &[(usize, u8)]) {
     let (of_tie, digits): (Rows, Vec<u8>) =
         tie.iter().map(|(row, digit)| (rows[*row].clone(), *digit)).unzip();
-    assert!(adds_to_zero(&of_tie, &digits), "SEED={}", seed());
+    assert!(adds_to_zero(&of_tie, &digits), "{tie:?}, SEED={}", seed());
+}
+
+/// Without any one of its rows the others of a tie are not tied, by their rank.
+fn expect_least(rows: &[Vec<u8>], tie: &[(usize, u8)]) {
     for left_out in 0..tie.len() {
-        let mut others = of_tie.clone();
+        let mut others: Rows = tie.iter().map(|(row, _)| rows[*row].clone()).collect();
         others.remove(left_out);
         assert!(!tied(others), "row {left_out} of {tie:?}, SEED={}", seed());
     }
@@ -59,7 +62,8 @@ fn ties_of_every_number_of_rows() {
             let tie = any_tie(&mut random, size, shape.digits);
             let mut rows = fit(&mut random, shape);
             plant(&mut random, &mut rows, &tie);
-            compare(&mut random, shape, &rows, &list_of(&tie));
+            compare(&mut random, shape, &rows, &list_of_terms(&tie));
+            expect_zero(&rows, &tie);
             // In set 3 every fourth time: a rank takes long there.
             if shape.bits < 512 || size % 4 == 1 {
                 expect_least(&rows, &tie);
@@ -100,7 +104,7 @@ fn of_two_ties_the_first() {
             let first = last(&other) < last(&one);
             orders[usize::from(first)] += 1;
             let told = if first { &other } else { &one };
-            compare(&mut random, shape, &rows, &list_of(told));
+            compare(&mut random, shape, &rows, &list_of_terms(told));
         }
     }
     assert!(orders.iter().all(|times| *times > count / 4), "{orders:?}, SEED={}", seed());
@@ -126,7 +130,7 @@ fn two_sums_of_the_same_rows() {
             tie_to(&mut random, &mut rows, sums[1], others);
             // The sum less the row is the zero row, and 2 is -1.
             terms.push((sums[0], 2));
-            compare(&mut random, shape, &rows, &list_of(&terms));
+            compare(&mut random, shape, &rows, &list_of_terms(&terms));
         }
     }
     report("ties: two sums of the same rows", 2 * SETS.len() * count);
@@ -154,7 +158,7 @@ fn what_follows_the_shortest_beginning() {
                     _ => row.clone_from(other),
                 }
             }
-            compare(&mut random, shape, &rows, &list_of(&tie));
+            compare(&mut random, shape, &rows, &list_of_terms(&tie));
             count += 2;
         }
     }

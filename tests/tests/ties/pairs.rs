@@ -4,7 +4,7 @@
 use crate::interface;
 use crate::matrix_calls::compare_list;
 use service_pair_tests::guarded::compare;
-use service_pair_tests::matrices::{file_of, list_of, packed_row, tie, uniform, Terms};
+use service_pair_tests::matrices::{file_of, list_of_terms, packed_row, tie, uniform, Terms};
 use service_pair_tests::random::{report, Random};
 use service_pair_tests::reference::matrix::{
     block_of, block_sums, row_place, rows_of_file, BLOCK_BYTES, CHECK_AT,
@@ -71,7 +71,7 @@ fn every_two_rows() {
                 let tied = with_row(shape, &file, row, &packed_row(shape, &rows[row]));
                 refused(&mut random, shape, &tied);
                 // The sum less the row is the zero row, and 2 is -1.
-                let list = listed(list_of(&[&terms[..], &[(row, 2)]].concat()));
+                let list = listed(list_of_terms(&[&terms[..], &[(row, 2)]].concat()));
                 compare_list(&mut random, shape.set, &tied, shape.tie_bytes(), &list);
                 count += 2;
             }

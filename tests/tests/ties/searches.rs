@@ -3,7 +3,7 @@
 //! columns of their own besides.
 
 use crate::matrix_calls::compare_list;
-use service_pair_tests::matrices::{file_of, nonzero_digit, shuffled, small, Rows};
+use service_pair_tests::matrices::{all_small, file_of, nonzero_digit, shuffled, small, Rows};
 use service_pair_tests::random::{report, seed, Random};
 use service_pair_tests::reference::numbers::{Answer, NOT_TIED};
 use service_pair_tests::reference::shape::{Shape, SETS, SET_2};
@@ -65,23 +65,15 @@ fn compare(random: &mut Random, shape: Shape, small: &Rows, places: &Places) -> 
     expected.number
 }
 
-/// Every matrix of so many rows and columns, as the first rows of one of set 2.
-fn every(random: &mut Random, height: usize, width: usize) -> usize {
-    let (places, count) = (Places::first(SET_2), 3usize.pow((height * width) as u32));
-    for number in 0..count {
-        let digit = |i: usize, j: usize| (number / 3usize.pow((width * i + j) as u32) % 3) as u8;
-        let row = |i: usize| (0..width).map(|j| digit(i, j)).collect();
-        compare(random, SET_2, &(0..height).map(row).collect(), &places);
-    }
-    count
-}
-
+/// Each stands as the first rows of a matrix of set 2.
 #[test]
 fn every_matrix_of_few_rows_and_columns() {
     let mut random = Random::for_test("all small matrices");
-    let of_one_column = (1..=6).map(|height| (height, 1));
-    let sizes = of_one_column.chain([(1, 2), (2, 2), (3, 2), (4, 2), (2, 3), (3, 3)]);
-    let count = sizes.map(|(height, width)| every(&mut random, height, width)).sum();
+    let (places, mut count) = (Places::first(SET_2), 0);
+    for small in all_small() {
+        compare(&mut random, SET_2, &small, &places);
+        count += 1;
+    }
     report("ties: all small matrices and a search", count);
 }
 
