@@ -213,7 +213,7 @@ enum pair_number {
     PAIR_SHORT_SOURCE = 13,   /* a source has fewer than 3n pairs from the start, or fewer than n other than 3 after
                                  those, or 2^62 bytes or more, whose pairs 64 bits would not count */
     PAIR_NO_SET = 14,         /* set is not 1, 2 or 3: looked at before all other numbers */
-    PAIR_OTHER_LINE = 15,     /* line is not the unit's; in join, the two differ: looked at after the call's others */
+    PAIR_OTHER_LINE = 15,     /* line is not the unit's; in join, the two differ: the last that is looked at */
     PAIR_NOT_TIED = 16        /* the matrix file is fit, so that pair_tied_rows has no rows to tell */
 };
 
@@ -241,8 +241,9 @@ uint32_t pair_matrix_read(uint32_t set, const uint8_t *file, size_t file_n, uint
  * the row numbers rise, and what follows the last row stays as it was. The digits are 1 or 2, the first one 1, and the
  * rows so multiplied add to the zero row modulo 3; without any one of these rows the others are not tied. All stand in
  * the shortest beginning of the matrix whose rows are tied, and its last row is one of them: there is just one such
- * list. Ties of later rows are not told: a maker draws one of these rows anew, and asks again. Gives 0, 1, 8, 9, 10, 14
- * or 16: a tied file gives 0 here, a fit one 16. */
+ * list. Ties of later rows are not told: a maker draws one of these rows anew, and asks again. No call writes a file of
+ * tied rows: whoever has the rows alone lays out their file, as examples/self_test.c does. Gives 0, 1, 8, 9, 10, 14 or
+ * 16: a tied file gives 0 here, a fit one 16. */
 PAIR_NODISCARD PAIR_NONNULL
 uint32_t pair_tied_rows(uint32_t set, const uint8_t *file, size_t file_n, uint8_t *out, size_t out_n, uint64_t *count);
 
