@@ -12,7 +12,7 @@ use linear_words::words::mask;
 const TABLE_WORDS: usize = 66;
 
 // A column: a word of each plane and a place in it.
-#[derive(Drop)]
+#[derive(Clone, Copy)]
 pub struct Column {
     pub word: usize,
     pub bit: u32,

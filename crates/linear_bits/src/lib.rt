@@ -1,2 +1,4 @@
 // Sums of bit strings modulo 2, for any size.
+#![tactic(auto)]
+
 pub mod bits;

@@ -1,2 +1,4 @@
 // Tests of trit vectors.
+#![tactic(auto)]
+
 pub mod fit;

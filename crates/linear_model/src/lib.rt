@@ -1,1 +1,3 @@
+#![tactic(auto)]
+
 // Bits, trits and their products: definitions and laws; no function.

@@ -1,2 +1,4 @@
 // Rows of trits times a vector, modulo 3, by words.
+#![tactic(auto)]
+
 pub mod rows;

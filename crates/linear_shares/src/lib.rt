@@ -1,2 +1,4 @@
 // Differences and inner shares modulo 3.
+#![tactic(auto)]
+
 pub mod shares;

@@ -1,5 +1,5 @@
 // What is made of two strings: the sum of two trit vectors, a bit string less a trit vector, or the inner share of a unit by its side.
-#[derive(Drop)]
+#[derive(Clone, Copy)]
 pub enum Operation {
     Sum,
     Difference,

@@ -8,14 +8,14 @@ ghost use Rattle.linear_model.specs.Internal.Planes.{trit_of, Narrow};
 use crate::words;
 
 // A word of each plane: 64 trits.
-#[derive(Drop)]
+#[derive(Clone, Copy)]
 pub struct Trits {
     pub low: u64,
     pub high: u64,
 }
 
 // A byte of each plane: eight trits.
-#[derive(Drop)]
+#[derive(Clone, Copy)]
 pub struct Planes {
     pub low: u8,
     pub high: u8,

@@ -1,4 +1,6 @@
 // Blocks of a matrix file of any layout.
+#![tactic(auto)]
+
 pub mod blocks;
 pub mod counts;
 pub mod faults;

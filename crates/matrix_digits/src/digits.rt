@@ -14,21 +14,21 @@ use matrix_blocks::layouts::Layout;
 use matrix_model::sizes::{BLOCK_BYTES, HEAD_BYTES};
 
 // Digits of a code, the first one lowest: their low bits and their high bits.
-#[derive(Drop)]
+#[derive(Clone, Copy)]
 struct Digits {
     low: u64,
     high: u64,
 }
 
 // A row's block, and its place among the rows there.
-#[derive(Drop)]
+#[derive(Clone, Copy)]
 struct Place {
     block: usize,
     row: usize,
 }
 
 // Digits that are not written yet, and the next row: its number, its block and its place there.
-#[derive(Drop)]
+#[derive(Clone, Copy)]
 struct Gathered {
     low: u64,
     high: u64,

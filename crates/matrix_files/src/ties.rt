@@ -16,7 +16,7 @@ use matrix_ties::lists::list_tied;
 use numbers::table::{BLOCK_CHECK, BLOCK_LAYOUT, DONE, NOT_TIED, UNFIT_TRIT, WRONG_LENGTH};
 
 // A number of the table, and how many rows are tied.
-#[derive(Drop)]
+#[derive(Clone, Copy)]
 pub struct TiedRows {
     pub result: u32,
     pub count: u64,

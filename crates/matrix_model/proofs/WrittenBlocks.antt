@@ -15,7 +15,7 @@ use Rattle.matrix_model.specs.Block.{Layout, rows_in, rows_end, head, head_byte,
 use Rattle.matrix_model.specs.File.{Fits, block_count, file_size, rows_size, block, file_byte, file_from}
 use Rattle.matrix_model.proofs.Tests.{every_true, both_true}
 use Rattle.matrix_model.proofs.Parts.{length_part, get_d_part, table_of}
-use Rattle.matrix_model.proofs.Layouts.{before_check, next_bytes}
+use Rattle.matrix_model.proofs.Layouts.{next_bytes}
 use Rattle.matrix_model.proofs.Blocks.{check_ext, length_front, block_part}
 
 module _ (layout : Layout) (fits : Fits layout) (set : List ℕ) (h : length set ≡ rows_size layout) (b : ℕ) (l : b < block_count layout) where

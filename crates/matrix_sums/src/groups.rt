@@ -2,7 +2,7 @@
 
 // Bytes of words added up in four lanes of 16 bits: `pairs` has those at places 0 and 1 of a word in its lowest lane, those at 2
 // and 3 in the next, and so on, and `odd` the second of each pair. `ahead` adds up what `pairs` was before each word.
-#[derive(Drop)]
+#[derive(Clone, Copy)]
 pub struct Lanes {
     pub pairs: u64,
     pub odd: u64,
@@ -10,14 +10,14 @@ pub struct Lanes {
 }
 
 // A number of the words at even places, and one of those at odd places.
-#[derive(Drop)]
+#[derive(Clone, Copy)]
 pub struct Sides {
     pub left: u64,
     pub right: u64,
 }
 
 // The lanes of both, side by side, as one instruction may add them.
-#[derive(Drop)]
+#[derive(Clone, Copy)]
 pub struct Columns {
     pub pairs: Sides,
     pub odd: Sides,
@@ -25,7 +25,7 @@ pub struct Columns {
 }
 
 // The two sums, whose remainder is still to be taken.
-#[derive(Drop)]
+#[derive(Clone, Copy)]
 pub struct Totals {
     pub first: u64,
     pub second: u64,

@@ -1,3 +1,5 @@
 // The check of a block.
+#![tactic(auto)]
+
 pub mod groups;
 pub mod sums;

@@ -10,7 +10,7 @@ use linear_words::words::{folded, word_at};
 use matrix_model::sizes::{BLOCK_BYTES, FIRST_SUM, SECOND_SUM};
 
 // The check of a block: two sums modulo 255.
-#[derive(Drop)]
+#[derive(Clone, Copy)]
 pub struct Check {
     pub first: u8,
     pub second: u8,

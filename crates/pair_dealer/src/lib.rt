@@ -1,2 +1,4 @@
 // The dealer: both deal frames.
+#![tactic(auto)]
+
 pub mod dealer;

@@ -1,2 +1,4 @@
 // Both deal frames of a tape.
+#![tactic(auto)]
+
 pub mod frames;

@@ -16,7 +16,7 @@ use linear::bits::add_bits;
 use linear_words::copies::put;
 
 // A deal: K̃i, x̃i, zi, ri, each in the front of its room, and zeros after it.
-#[derive(Drop)]
+#[derive(Clone, Copy)]
 pub struct Deal {
     pub key_mask: [u8; STRING_ROOM],
     pub label_mask: [u8; STRING_ROOM],

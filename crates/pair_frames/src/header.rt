@@ -1,5 +1,5 @@
 // What a frame is read to: its kind, side, session, line and body length, or its refusal.
-#[derive(Drop)]
+#[derive(Clone, Copy)]
 pub enum Header {
     Fields {
         kind: u8,

@@ -1,4 +1,6 @@
 // Frames: their lengths, by set, their headers and the fields of their bodies.
+#![tactic(auto)]
+
 pub mod copies;
 pub mod fields;
 pub mod frame;

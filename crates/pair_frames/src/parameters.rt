@@ -1,5 +1,5 @@
 // What a unit is begun with besides its halves, and each of its frames carries.
-#[derive(Drop)]
+#[derive(Clone, Copy)]
 pub struct Parameters {
     pub side: u8,
     pub session: u32,

@@ -7,7 +7,7 @@ use numbers::sizes::{
 
 // The sizes that a scheme chooses: the bytes of a key, those of a bit string as long as the inner vector, and the digits of a code; and what
 // its matrix file has besides: the set in byte 3 of its blocks, and the rows of a full block.
-#[derive(Drop)]
+#[derive(Clone, Copy)]
 pub struct Sizes {
     pub key_bytes: usize,
     pub inner_bytes: usize,

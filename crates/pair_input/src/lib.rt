@@ -1,2 +1,4 @@
 // The number of the program's input.
+#![tactic(auto)]
+
 pub mod input;

@@ -1,5 +1,5 @@
 -- The unit: how it begins, what a step returns, writes and leaves.
-use Rattle.std.specs.Prelude.{ℕ, ◌+◌, ◌-◌, ◌*◌, List, [], ◌∷◌, ◌++◌, Bool, cond, not, ltb, eqb, length}
+use Rattle.std.specs.Prelude.{ℕ, ◌-◌, ◌*◌, List, [], ◌∷◌, ◌++◌, Bool, cond, not, ltb, eqb, length}
 use Rattle.linear_model.specs.Bits.{zeros, add_bits}
 use Rattle.linear_model.specs.Trits.{fit_trits, inner_share}
 use Rattle.numbers.specs.Number.{Condition, ◌when◌, first, only_if}

@@ -1,2 +1,4 @@
 // Frames that a unit takes in the slice of its state.
+#![tactic(auto)]
+
 pub mod slices;

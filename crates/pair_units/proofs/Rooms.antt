@@ -2,7 +2,6 @@
 use mathlib.Core.Path.{◌≡◌}
 use mathlib.Core.List.{List}
 use Prim.Native.Nat.{ℕ, ◌*◌}
-use borrow.Author.Rules.{length_unmapped}
 use denote.Laws.{Is}
 use denote.Struct.Declared.{row}
 use mir.Val.{Val}
@@ -34,13 +33,13 @@ pub full : (u : UnitState) (vs : List Val) → Is (row Struct.the_type) u vs →
 full u vs p =
     let fields = p.1.1.1.1.1 in
     record {
-      key = length_unmapped ℕ u.key string_room fields.0.1.0.1;
-      label = length_unmapped ℕ u.label string_room fields.1.0.1.0.1;
-      key_mask = length_unmapped ℕ u.key_mask string_room fields.1.1.0.1.0.1;
-      label_mask = length_unmapped ℕ u.label_mask string_room fields.1.1.1.0.1.0.1;
-      z = length_unmapped ℕ u.z string_room fields.1.1.1.1.0.1.0.1;
-      r = length_unmapped ℕ u.r trits_room fields.1.1.1.1.1.0.1.0.1;
-      own_mask = length_unmapped ℕ u.own_mask string_room fields.1.1.1.1.1.1.0.1.0.1;
+      key = fields.0.1.0.1;
+      label = fields.1.0.1.0.1;
+      key_mask = fields.1.1.0.1.0.1;
+      label_mask = fields.1.1.1.0.1.0.1;
+      z = fields.1.1.1.1.0.1.0.1;
+      r = fields.1.1.1.1.1.0.1.0.1;
+      own_mask = fields.1.1.1.1.1.1.0.1.0.1;
     }
 
 -- the struct of halves alone stands for them

@@ -71,7 +71,7 @@ fn idle() -> UnitState
 }
 
 // What a beginning returns and gives.
-#[derive(Drop)]
+#[derive(Clone, Copy)]
 pub struct Begun {
     pub result: u32,
     pub next: UnitState,

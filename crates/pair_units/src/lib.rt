@@ -1,4 +1,6 @@
 // The unit: its state, its beginning and its step.
+#![tactic(auto)]
+
 pub mod begin;
 pub mod padding;
 pub mod state;

@@ -3,7 +3,7 @@ use pair_frames::parameters::Parameters;
 use pair_frames::sizes::{STRING_ROOM, TRITS_ROOM};
 
 // The set, the parameters, the stage, and the two halves, the deal and the own mask ŵi, each in the front of its room.
-#[derive(Drop)]
+#[derive(Clone, Copy)]
 pub struct UnitState {
     pub set: u8,
     pub parameters: Parameters,

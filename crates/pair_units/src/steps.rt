@@ -115,7 +115,7 @@ pub fn take_mask(sizes: Sizes, u: UnitState, f: &[u8], file: &[u8], out: &mut [u
 }
 
 // How much an accepted frame had written, and the state after it.
-#[derive(Drop)]
+#[derive(Clone, Copy)]
 pub struct Advanced {
     pub written: usize,
     pub next: UnitState,

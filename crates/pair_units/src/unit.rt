@@ -19,7 +19,7 @@ use pair_frames::sets::sizes_of;
 use pair_frames::sizes::Sizes;
 
 // What a step returns, how much it wrote, and the next state.
-#[derive(Drop)]
+#[derive(Clone, Copy)]
 pub struct Stepped {
     pub result: u32,
     pub written: usize,

@@ -1,2 +1,4 @@
 // A whole run in one place.
+#![tactic(auto)]
+
 pub mod run;

@@ -27,7 +27,7 @@ use pair_units::state::UnitState;
 use pair_units::steps::{advance, take_mask};
 
 // What a unit sends, in the front of the least output slice, and the unit afterwards.
-#[derive(Drop)]
+#[derive(Clone, Copy)]
 struct Sent {
     frame: [u8; OPEN_FRAME_BYTES],
     next: UnitState,
@@ -48,7 +48,7 @@ fn send(u: UnitState, f: &[u8], file: &[u8]) -> Sent
 }
 
 // What both units have sent, and both afterwards.
-#[derive(Drop)]
+#[derive(Clone, Copy)]
 struct Round {
     frame0: [u8; OPEN_FRAME_BYTES],
     frame1: [u8; OPEN_FRAME_BYTES],

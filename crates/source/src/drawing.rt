@@ -14,7 +14,7 @@ use numbers::table::{DONE, SHORT_SOURCE};
 const SOURCE_LIMIT: usize = 0x4000_0000_0000_0000;
 
 // How many trits are found, and the next pair.
-#[derive(Drop)]
+#[derive(Clone, Copy)]
 struct Drawing {
     pub found: usize,
     pub next: u64,
@@ -127,7 +127,7 @@ fn draw_trits(source: &[u8], start: u64, trits: &mut [u8]) -> Drawing
 }
 
 // A draw's number, and the next unread pair.
-#[derive(Drop)]
+#[derive(Clone, Copy)]
 pub struct Draw {
     pub result: u32,
     pub next: u64,

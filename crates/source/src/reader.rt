@@ -9,7 +9,7 @@ use linear_words::bytes::{byte_at, wide};
 const LAST_BYTE: usize = 0xffff_ffff_ffff_ffff;
 
 // The value of one pair or of several, the first one lowest, and the place after them: pair `pair` of byte `byte`.
-#[derive(Drop)]
+#[derive(Clone, Copy)]
 pub struct PairAndPlace {
     pub value: u8,
     pub byte: usize,
@@ -63,7 +63,7 @@ fn next_pairs(count: usize, source: &[u8], byte: usize, at: usize) -> PairAndPla
 }
 
 // A reader: its source, and the next pair, pair `pair` of byte `byte`.
-#[derive(Drop)]
+#[derive(Clone, Copy)]
 pub struct PairReader<'a> {
     pub source: &'a [u8],
     pub byte: usize,
@@ -71,7 +71,7 @@ pub struct PairReader<'a> {
 }
 
 // The value of pairs, and the reader after them.
-#[derive(Drop)]
+#[derive(Clone, Copy)]
 pub struct PairAndReader<'a> {
     pub value: u8,
     pub reader: PairReader<'a>,

@@ -14,7 +14,7 @@ use Rattle.linear_model.proofs.Tables.{same₁}
 use Rattle.source_model.specs.Pair.{pair}
 use Rattle.source_model.specs.Draw.{Drawn, found, copied, draw, drawn, tape_from, source_conditions, source_number}
 use Rattle.source_model.specs.Disjoint.{sampling, Disjoint}
-use Rattle.source_model.specs.Evidence.{twice, last_pair_again, whole_byte_again, copies_from_first, DrawEvidence}
+use Rattle.source_model.specs.Evidence.{twice, copies_from_first, DrawEvidence}
 use Rattle.source_model.proofs.Conditions.{is_enough}
 use Rattle.source_model.proofs.BytesE4.{Many, many_and_one, one-trit}
 

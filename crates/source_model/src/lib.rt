@@ -1,1 +1,3 @@
+#![tactic(auto)]
+
 // Pairs of bits of a random source: definitions and laws; no function.

@@ -6,7 +6,7 @@ use Prim.Native.Nat.{ℕ, zero, suc, ◌+◌, ◌-◌, ◌*◌, ◌/◌, ◌%◌
 use native.Mathlib.Nat.{zero-add, zero-lt-suc}
 use native.Mathlib.Decide.{dec_lt}
 use native.Mathlib.Omega.{arith}
-use lib.Bits.{bit_xor, bit_and, bit_or, or_add_and, and_le_l, and_le_r}
+use lib.Bits.{bit_xor, bit_and, bit_or, or_zero_l, or_add_and, and_le_l, and_le_r}
 use lib.Dec.{T, ltb, eqb, eqb→eq, lit<}
 use borrow.Author.Tests.{lt-ltb, le-ltb}
 use Rattle.linear_model.specs.Tables.{every, from}
@@ -54,6 +54,10 @@ gather test p w i acc x hp hi h s e = bool_ext (eqb (bit_or acc x) 0) (every (p 
 pub gather_byte : (test : ℕ → Bool) (i acc x : ℕ) → x < 256 → Shows 8 test (8 * i) x → eqb acc 0 ≡ every (8 * i) test → eqb (bit_or acc x) 0 ≡ every (8 * (i + 1)) test
 gather_byte test i acc x h s e =
     gather test (8 * i) 8 (8 * i) acc x (omega arith) (omega arith) h s e ∙ ap (λ (n : ℕ). every n test) (omega arith)
+
+-- one byte more, where all before it were 0
+pub gather_zero : (test : ℕ → Bool) (i x : ℕ) → x < 256 → Shows 8 test (8 * i) x → true ≡ every (8 * i) test → eqb x 0 ≡ every (8 * (i + 1)) test
+gather_zero test i x h s e = ap (λ (y : ℕ). eqb y 0) (sym (or_zero_l x)) ∙ gather_byte test i 0 x h s e
 
 -- a test of the places before t
 every_before : (t n : ℕ) (test : ℕ → Bool) → every n (λ j. cond (ltb j t) (test j) true) ≡ every (min t n) test

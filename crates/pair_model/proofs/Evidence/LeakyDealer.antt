@@ -5,8 +5,8 @@ use mathlib.Core.Logic.{◌≢◌}
 use mathlib.Core.List.{List}
 use Rattle.linear_model.specs.Bits.{Bytes, add_bits}
 use Rattle.linear_model.proofs.Strings.{add_twice}
-use Rattle.pair_model.specs.Scheme.{Files, Scheme, Linear, side0, other}
-use Rattle.pair_model.specs.Tape.{Accepted, w̃, z0, z}
+use Rattle.pair_model.specs.Scheme.{Files, Scheme, Linear, side0}
+use Rattle.pair_model.specs.Tape.{Accepted, w̃, z}
 use Rattle.pair_model.specs.Frame.{frame, header, body_of}
 use Rattle.pair_model.specs.Run.{Inputs, WellFormed, run_of}
 use Rattle.pair_model.specs.View.{View, view}
@@ -14,7 +14,7 @@ use Rattle.pair_model.specs.Theorem.{SameForFixed, Hides, Privacy}
 use Rattle.pair_model.specs.Leaky.{with_inner_mask, inner_mask_dealt}
 use Rattle.pair_model.proofs.Theorem.TapeParts.{Parts, Whole, tape_of, accepted_of, parts_of, parts-tape, whole_parts}
 use Rattle.pair_model.proofs.Theorem.Pairing.{inner_of}
-use Rattle.pair_model.proofs.Theorem.MaskLaws.{mask, mask-sum}
+use Rattle.pair_model.proofs.Theorem.MaskLaws.{mask-sum}
 use Rattle.pair_model.proofs.Theorem.Stages.{incoming, unit_at}
 use Rattle.pair_model.proofs.Evidence.Leaky.{event_at}
 use Rattle.pair_model.proofs.Evidence.OtherTape.{five, Seen, seen, same_five}

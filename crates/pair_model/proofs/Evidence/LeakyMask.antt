@@ -7,7 +7,7 @@ use native.Mathlib.Omega.{arith}
 use native.Mathlib.Nat.{le_refl}
 use lib.Dec.{eqb}
 use lib.ListN.{get_or}
-use Rattle.linear_model.specs.Bits.{Bytes, add_bits}
+use Rattle.linear_model.specs.Bits.{add_bits}
 use Rattle.pair_model.specs.Scheme.{Files, Scheme, Linear, Side, side0, side1, field}
 use Rattle.pair_model.specs.Tape.{Accepted, K̃, x̃}
 use Rattle.pair_model.specs.Frame.{open_kind, frame, header, body_of, open_layout}

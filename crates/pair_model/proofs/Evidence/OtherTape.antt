@@ -6,14 +6,12 @@ use native.Mathlib.Nat.{le_refl}
 use lib.Dec.{lit<, lit≤}
 use Rattle.pair_model.specs.Scheme.{Files, Scheme, Linear, Side, side0, side1, other}
 use Rattle.pair_model.specs.Tape.{Accepted}
-use Rattle.pair_model.specs.Frame.{frame}
 use Rattle.pair_model.specs.Unit.{Stepped, step_reading, least_output}
-use Rattle.pair_model.specs.Run.{Protocol, protocol, Inputs, WellFormed, Run, run_of, Configuration, as_sent, Entry, update, start, frame_of, step_of, next, DeliveredAsSent, ListOf}
+use Rattle.pair_model.specs.Run.{Protocol, Inputs, WellFormed, Run, run_of, Configuration, as_sent, Entry, update, start, frame_of, step_of, next, DeliveredAsSent, ListOf}
 use Rattle.pair_model.specs.View.{View, events, view}
 use Rattle.pair_model.specs.Theorem.{Hides}
 use Rattle.pair_model.specs.Evidence.{shared}
 use Rattle.pair_model.specs.Leaky.{dealt_by}
-use Rattle.pair_model.proofs.Theorem.MaskLaws.{mask}
 use Rattle.pair_model.proofs.Theorem.Stages.{incoming, unit_at}
 use Rattle.pair_model.proofs.Theorem.Configurations.{configuration_at, Ready, delivered_of, frame_is, step-sent, next-sent, start-at}
 use Rattle.pair_model.proofs.Evidence.Strays.{shared_comparable}

@@ -49,8 +49,8 @@ well : WellFormed base sample_inputs
 unfolding reading_number check_number first
 well =
     record {
-      key = λ i. elim i [ side0 ↦ one_byte 1 (lit< tt) | side1 ↦ bytes_zeros 32 ];
-      label = λ i. elim i [ side0 ↦ one_byte 5 (lit< tt) | side1 ↦ bytes_zeros 32 ];
+      key = λ i. elim i as (λ j. Bytes base.key_bytes (sample_inputs.key j)) [ side0 ↦ one_byte 1 (lit< tt) | side1 ↦ bytes_zeros 32 ];
+      label = λ i. elim i as (λ j. Bytes base.key_bytes (sample_inputs.label j)) [ side0 ↦ one_byte 5 (lit< tt) | side1 ↦ bytes_zeros 32 ];
       shared = record { session = lit< tt; line = lit< tt };
       product = refl;
       rows = sample_survives.fit;
@@ -59,16 +59,16 @@ well =
 changed_well : (i : Side) → WellFormed base (changed i)
 changed_well side0 =
     record {
-      key = λ i. elim i [ side0 ↦ one_byte 2 (lit< tt) | side1 ↦ bytes_zeros 32 ];
-      label = λ i. elim i [ side0 ↦ one_byte 9 (lit< tt) | side1 ↦ bytes_zeros 32 ];
+      key = λ i. elim i as (λ j. Bytes base.key_bytes ((changed side0).key j)) [ side0 ↦ one_byte 2 (lit< tt) | side1 ↦ bytes_zeros 32 ];
+      label = λ i. elim i as (λ j. Bytes base.key_bytes ((changed side0).label j)) [ side0 ↦ one_byte 9 (lit< tt) | side1 ↦ bytes_zeros 32 ];
       shared = well.shared;
       product = well.product;
       rows = well.rows;
     }
 changed_well side1 =
     record {
-      key = λ i. elim i [ side0 ↦ one_byte 1 (lit< tt) | side1 ↦ one_byte 2 (lit< tt) ];
-      label = λ i. elim i [ side0 ↦ one_byte 5 (lit< tt) | side1 ↦ one_byte 9 (lit< tt) ];
+      key = λ i. elim i as (λ j. Bytes base.key_bytes ((changed side1).key j)) [ side0 ↦ one_byte 1 (lit< tt) | side1 ↦ one_byte 2 (lit< tt) ];
+      label = λ i. elim i as (λ j. Bytes base.key_bytes ((changed side1).label j)) [ side0 ↦ one_byte 5 (lit< tt) | side1 ↦ one_byte 9 (lit< tt) ];
       shared = well.shared;
       product = well.product;
       rows = well.rows;

@@ -6,7 +6,7 @@ use native.Mathlib.Omega.{arith}
 use mathlib.Core.List.{List, [], ◌∷◌}
 use lib.Dec.{lit<}
 use lib.ListN.{get_or}
-use Rattle.linear_model.specs.Bits.{zeros, bit}
+use Rattle.linear_model.specs.Bits.{Bytes, zeros, bit}
 use Rattle.linear_model.specs.Tables.{every}
 use Rattle.linear_model.specs.Trits.{trit, fit_trits}
 use Rattle.linear_model.proofs.Strings.{bytes_zeros}
@@ -36,8 +36,8 @@ pub small_well : (key0 key1 label0 label1 : ℕ) → key0 < 256 → key1 < 256 �
 unfolding reading_number first
 small_well key0 key1 label0 label1 h0 h1 h2 h3 =
     record {
-      key = λ i. elim i [ side0 ↦ bytes_one key0 h0 | side1 ↦ bytes_one key1 h1 ];
-      label = λ i. elim i [ side0 ↦ bytes_one label0 h2 | side1 ↦ bytes_one label1 h3 ];
+      key = λ i. elim i as (λ j. Bytes small.key_bytes ((small_inputs key0 key1 label0 label1).key j)) [ side0 ↦ bytes_one key0 h0 | side1 ↦ bytes_one key1 h1 ];
+      label = λ i. elim i as (λ j. Bytes small.key_bytes ((small_inputs key0 key1 label0 label1).label j)) [ side0 ↦ bytes_one label0 h2 | side1 ↦ bytes_one label1 h3 ];
       shared = record { session = lit< tt; line = lit< tt };
       product = refl;
       rows = refl;

@@ -23,7 +23,7 @@ use Rattle.pair_model.specs.Theorem.{Hides, Privacy}
 use Rattle.pair_model.specs.Leaky.{small, without_bit0, with_uneven_mask, uneven_mask_dealt}
 use Rattle.pair_model.proofs.Theorem.TapeParts.{Parts, Whole, tape_of, accepted_of, parts_of, parts-tape, whole_parts, tape-parts}
 use Rattle.pair_model.proofs.Theorem.Pairing.{inner_of}
-use Rattle.pair_model.proofs.Theorem.MaskLaws.{mask, mask-sum, open_key, open_label}
+use Rattle.pair_model.proofs.Theorem.MaskLaws.{mask-sum, open_key, open_label}
 use Rattle.pair_model.proofs.Theorem.Stages.{incoming, unit_at, open_field}
 use Rattle.pair_model.proofs.Evidence.Small.{a, b, well₁, well₂, same_for, zero_one, small_linear, zero-tape}
 use Rattle.pair_model.proofs.Evidence.Leaky.{event_at}
@@ -63,7 +63,7 @@ module _ (tape : List ℕ) (h : Accepted small tape) where
   whole =
       let w = whole_parts small tape h in
       record {
-        key_mask = λ i. elim i [ side0 ↦ bytes_without first (w.key_mask side0) | side1 ↦ either (eqb (bit first 0) 1) ];
+        key_mask = λ i. elim i as (λ j. Bytes 1 (parts.key_mask j)) [ side0 ↦ bytes_without first (w.key_mask side0) | side1 ↦ either (eqb (bit first 0) 1) ];
         label_mask = w.label_mask;
         innermask = w.innermask;
         z0 = w.z0;

@@ -2,14 +2,13 @@
 use Prim.Native.Nat.{ℕ}
 use mathlib.Core.Path.{◌≡◌, refl, sym, ap, ap₂, ◌∙◌}
 use mathlib.Core.List.{List, [], ◌∷◌}
-use mathlib.Core.Bool.{cond}
 use Rattle.linear_model.specs.Bits.{Bytes, zeros, from_bits, bit, pack, add_bits}
 use Rattle.linear_model.specs.Tables.{tabulate, sum}
 use Rattle.linear_model.specs.Products.{bit_product}
 use Rattle.linear_model.proofs.Strings.{add_twice, add_comm}
 use Rattle.pair_model.specs.Scheme.{Side, side0, side1, field}
 use Rattle.pair_model.specs.Tape.{Accepted, K̃, x̃}
-use Rattle.pair_model.specs.Frame.{frame, body_of, open_layout}
+use Rattle.pair_model.specs.Frame.{body_of, open_layout}
 use Rattle.pair_model.specs.Run.{run_of, SharedEntry, same, first_of, second_of}
 use Rattle.pair_model.specs.View.{View, events, view}
 use Rattle.pair_model.specs.Theorem.{Hides, Privacy}
@@ -78,8 +77,8 @@ module _ (H : Hides (without_z small) side0 a b) where
   unfolding view events es
   equal =
       record {
-        key = λ i. elim i [ side0 ↦ own 0 | side1 ↦ others 0 ];
-        label = λ i. elim i [ side0 ↦ own 1 | side1 ↦ others 1 ];
+        key = λ i. elim i as (λ j. open_key small a (zeros 8) j ≡ open_key small b u j) [ side0 ↦ own 0 | side1 ↦ others 0 ];
+        label = λ i. elim i as (λ j. open_label small a (zeros 8) j ≡ open_label small b u j) [ side0 ↦ own 1 | side1 ↦ others 1 ];
         masks =
             sym (other-mask small small_linear a (zeros 8) well₁ zero-tape a.files refl)
             ∙ ap (λ (v : View). body_of (event_at 2 v).frame) views

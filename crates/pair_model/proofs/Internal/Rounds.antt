@@ -57,8 +57,8 @@ module _ (input : List ℕ) (n : ℕ) (f : RunFits input n) (small : (i : ℕ) �
   unfolding reading_number check_number number_in first
   well =
       record {
-        key = λ i. elim i [ side0 ↦ rw (← key_0 input) (bytes_slice 6528 0 32 input bytes (lit≤ tt)) | side1 ↦ rw (← key_1 input) (bytes_slice 6528 32 32 input bytes (lit≤ tt)) ];
-        label = λ i. elim i [ side0 ↦ rw (← label_0 input) (bytes_slice 6528 64 32 input bytes (lit≤ tt)) | side1 ↦ rw (← label_1 input) (bytes_slice 6528 96 32 input bytes (lit≤ tt)) ];
+        key = λ i. elim i as (λ j. Bytes base.key_bytes (given.key j)) [ side0 ↦ rw (← key_0 input) (bytes_slice 6528 0 32 input bytes (lit≤ tt)) | side1 ↦ rw (← key_1 input) (bytes_slice 6528 32 32 input bytes (lit≤ tt)) ];
+        label = λ i. elim i as (λ j. Bytes base.key_bytes (given.label j)) [ side0 ↦ rw (← label_0 input) (bytes_slice 6528 64 32 input bytes (lit≤ tt)) | side1 ↦ rw (← label_1 input) (bytes_slice 6528 96 32 input bytes (lit≤ tt)) ];
         shared = record { session = lit< tt; line = lit< tt };
         product = refl;
         rows = f.file;

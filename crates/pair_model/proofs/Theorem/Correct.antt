@@ -184,7 +184,7 @@ module _ (S : Scheme) (L : Linear S) (a : Inputs) (tape : List ℕ) (well : Well
   in_order_ends =
       one_on _ side0 (lit< tt) (lit≤ tt) (one_on _ side1 (lit< tt) (lit≤ tt) (one_on _ side0 (lit< tt) (lit≤ tt)
       (one_on _ side1 (lit< tt) (lit≤ tt) (one_on _ side0 (lit< tt) (lit≤ tt) (one_on _ side1 (lit< tt) (lit≤ tt)
-      (record { list = tt; done = λ i. elim i [ side0 ↦ refl | side1 ↦ refl ] }))))))
+      (record { list = tt; done = λ i. elim i as (λ j. ((final P R (C (update side1 3 (update side0 3 (update side1 2 (update side0 2 (update side1 1 (update side0 1 (λ x. 0)))))))) []).unit j).stage ≡ done_stage) [ side0 ↦ refl | side1 ↦ refl ] }))))))
 
   -- ---- the evaluator takes the run's key, label and file
 

@@ -120,8 +120,8 @@ module _ (S : Scheme) (k k' x x' w w' : List ℕ) where
   unfolding shift
   whole_shift p h =
       record {
-        key_mask = λ i. elim i [ side0 ↦ h.key_mask side0 | side1 ↦ bytes_add S.key_bytes (add_bits S.key_bytes (p.key_mask side1) k) k' ];
-        label_mask = λ i. elim i [ side0 ↦ h.label_mask side0 | side1 ↦ bytes_add S.key_bytes (add_bits S.key_bytes (p.label_mask side1) x) x' ];
+        key_mask = λ i. elim i as (λ j. Bytes S.key_bytes ((shift p).key_mask j)) [ side0 ↦ h.key_mask side0 | side1 ↦ bytes_add S.key_bytes (add_bits S.key_bytes (p.key_mask side1) k) k' ];
+        label_mask = λ i. elim i as (λ j. Bytes S.key_bytes ((shift p).label_mask j)) [ side0 ↦ h.label_mask side0 | side1 ↦ bytes_add S.key_bytes (add_bits S.key_bytes (p.label_mask side1) x) x' ];
         innermask = bytes_add S.inner_bytes (add_bits S.inner_bytes p.innermask w) w';
         z0 = h.z0;
         r0 = h.r0;

@@ -91,8 +91,8 @@ module _ (S : Scheme) where
     unfolding K̃ x̃ w̃ z0 r0 field fields_of
     whole_parts =
         record {
-          key_mask = λ i. elim i [ side0 ↦ cut.0 | side1 ↦ cut.1.0 ];
-          label_mask = λ i. elim i [ side0 ↦ cut.1.1.0 | side1 ↦ cut.1.1.1.0 ];
+          key_mask = λ i. elim i as (λ j. Bytes S.key_bytes ((parts_of tape).key_mask j)) [ side0 ↦ cut.0 | side1 ↦ cut.1.0 ];
+          label_mask = λ i. elim i as (λ j. Bytes S.key_bytes ((parts_of tape).label_mask j)) [ side0 ↦ cut.1.1.0 | side1 ↦ cut.1.1.1.0 ];
           innermask = cut.1.1.1.1.0;
           z0 = cut.1.1.1.1.1.0;
           r0 = cut.1.1.1.1.1.1.0;

@@ -1,0 +1,8 @@
+-- `pair_frames::frame::header_bytes` meets its contract, byte by byte.
+use mathlib.Core.Path.{refl}
+use Rattle.pair_model.specs.Frame.{header}
+use Rattle.pair_frames.proofs.frame.header_bytes.Goals as goal
+
+pub returns : goal.returns
+unfolding header
+returns c = refl

@@ -1,0 +1,33 @@
+-- `pair_input::input::run_number` meets its contract: the file's number, and 10 before its 12 where the tape is unfit.
+use mathlib.Core.Path.{◌≡◌, sym, ap, ◌∙◌}
+use native.Mathlib.Omega.{arith}
+use lib.ListN.{length, take, drop, length-drop}
+use lib.Seq.{length-take-le}
+use Rattle.linear_model.specs.Trits.{fit_trits}
+use Rattle.matrix_model.specs.File.{check_number}
+use Rattle.pair_model.proofs.Internal.Contents.{fit_vector}
+use Rattle.pair_model.proofs.Internal.Runs.{run_length, run_room, run_fit, run_unfit, file_is, file_length, r0_is}
+use Rattle.pair_input.proofs.input.run_number.Goals as goal
+
+pub returns-then-input-ne-INPUT_BYTES : goal.returns-then-input-ne-INPUT_BYTES
+returns-then-input-ne-INPUT_BYTES c = run_length _ _ c.if-input-ne-INPUT_BYTES.true
+
+pub returns-then-room-lt-CODE_BYTES : goal.returns-then-room-lt-CODE_BYTES
+returns-then-room-lt-CODE_BYTES c = run_room _ _ c.if-input-ne-INPUT_BYTES.false c.if-room-lt-CODE_BYTES.true
+
+pub returns-then-trits_fit : goal.returns-then-trits_fit
+returns-then-trits_fit c =
+    let input = c.args.input.now in
+    let l = c.if-input-ne-INPUT_BYTES.false in
+    let v : length (take 64 (drop 320 input)) ≡ 64 = length-take-le 64 (drop 320 input) (rw length-drop (omega (arith, l))) in
+    run_fit input _ l c.if-room-lt-CODE_BYTES.false (file_length input l) _ (c.matrix_check-number.ensures ∙ ap (check_number 1) (file_is input))
+    (ap (fit_trits 32 256) (sym (r0_is input)) ∙ sym (c.trits_fit.ensures ∙ fit_vector 32 (take 64 (drop 320 input)) v) ∙ c.if-trits_fit.true)
+
+pub returns : goal.returns
+returns c =
+    let input = c.args.input.now in
+    let l = c.if-input-ne-INPUT_BYTES.false in
+    let v : length (take 64 (drop 320 input)) ≡ 64 = length-take-le 64 (drop 320 input) (rw length-drop (omega (arith, l))) in
+    c.with_unfit_tape.ensures
+    ∙ run_unfit input _ l c.if-room-lt-CODE_BYTES.false (file_length input l) _ (c.matrix_check-number.ensures ∙ ap (check_number 1) (file_is input))
+    (ap (fit_trits 32 256) (sym (r0_is input)) ∙ sym (c.trits_fit.ensures ∙ fit_vector 32 (take 64 (drop 320 input)) v) ∙ c.if-trits_fit.false)
