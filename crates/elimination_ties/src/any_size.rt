@@ -40,14 +40,7 @@ fn lacks_room(bytes: usize, t: usize, rows: usize, words: usize, n: usize) -> bo
 
 // Writes the tie of `t` rows of `bytes` bytes to a plane, and says how many entries it has: none where the rows are not tied, or where there
 // is no room, and then nothing is written. Where there is room, what is left in the words is not said.
-#[unsafe(no_mangle)]
-pub extern "C" fn tie_of_rows(
-    rows: &[u8],
-    bytes: usize,
-    t: usize,
-    words: &mut [u64],
-    out: &mut [u8],
-) -> usize
+pub fn tie_of_rows(rows: &[u8], bytes: usize, t: usize, words: &mut [u64], out: &mut [u8]) -> usize
     ensures tie { Room bytes t (length rows.now) (length words.old) (length out.old)
         → (result ≡ entry_count (tie_bytes (8 * bytes) t (trit_at bytes rows.now)))
         × (out.new ≡ at_front (tie_bytes (8 * bytes) t (trit_at bytes rows.now)) out.old) }

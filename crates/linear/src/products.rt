@@ -6,16 +6,14 @@ use linear_circulant::circulant;
 use linear_rows::rows;
 
 // The circulant matrix of `key` times `label`, modulo 2.
-#[unsafe(no_mangle)]
-pub extern "C" fn circulant_product(key: &[u8], label: &[u8], out: &mut [u8])
+pub fn circulant_product(key: &[u8], label: &[u8], out: &mut [u8])
     ensures { out.new ≡ circulant_product (length out.old) key.now label.now }
 {
     circulant::circulant_product(key, label, out);
 }
 
 // The first `t` rows of a matrix times a vector, modulo 3. The vector's two planes are the halves of `v`, and a row has as many bytes.
-#[unsafe(no_mangle)]
-pub extern "C" fn matrix_product(rows: &[u8], v: &[u8], t: usize, out: &mut [u8])
+pub fn matrix_product(rows: &[u8], v: &[u8], t: usize, out: &mut [u8])
     ensures { out.new ≡
         matrix_product (length out.old / 2) (length v.now / 2) t rows.now v.now
         ++ drop (2 * (length out.old / 2)) out.old }

@@ -7,8 +7,7 @@ use matrix_files::file::{file_check, file_read, file_write};
 use numbers::table::NO_SET;
 
 // The matrix check: the number of a file, and no more.
-#[unsafe(no_mangle)]
-pub extern "C" fn matrix_check(set: u32, file: &[u8]) -> u32
+pub fn matrix_check(set: u32, file: &[u8]) -> u32
     ensures { result ≡ check_number set file.now }
 {
     let layout = layout_of(set);

@@ -1,5 +1,5 @@
-// The C interface but for the units: each function is total over slices, answers a number of the table, and neither allocates nor
-// keeps a pointer. All but `pair_run` name a set.
+// The calls of the C interface but for the units, which `protocol_c` exports: each function is total over slices, answers a number of
+// the table, and neither allocates nor keeps a pointer. All but `pair_run` name a set.
 ghost use Rattle.std.specs.Prelude.{◌≡◌, ◌*◌, length, take};
 ghost use Rattle.numbers.specs.Number.{output, reported};
 ghost use Rattle.numbers.specs.Sets.{number_in};
@@ -28,16 +28,14 @@ use pair_sampler::sampler::sample;
 use pair_whole::run::run;
 
 // The matrix check: the number of a file.
-#[unsafe(no_mangle)]
-pub extern "C" fn pair_matrix_check(set: u32, file: &[u8]) -> u32
+pub fn pair_matrix_check(set: u32, file: &[u8]) -> u32
     ensures { result ≡ check_number set file.now }
 {
     matrix_check(set, file)
 }
 
 // The file of rows.
-#[unsafe(no_mangle)]
-pub extern "C" fn pair_matrix_write(set: u32, rows: &[u8], out: &mut [u8]) -> u32
+pub fn pair_matrix_write(set: u32, rows: &[u8], out: &mut [u8]) -> u32
     ensures result { result ≡ write_number set rows.now (length out.old) }
     ensures output { out.new ≡ write_output set rows.now out.old }
 {
@@ -45,8 +43,7 @@ pub extern "C" fn pair_matrix_write(set: u32, rows: &[u8], out: &mut [u8]) -> u3
 }
 
 // The rows of a file.
-#[unsafe(no_mangle)]
-pub extern "C" fn pair_matrix_read(set: u32, file: &[u8], out: &mut [u8]) -> u32
+pub fn pair_matrix_read(set: u32, file: &[u8], out: &mut [u8]) -> u32
     ensures result { result ≡ read_number set file.now (length out.old) }
     ensures output { out.new ≡ read_output set file.now out.old }
 {
@@ -54,8 +51,7 @@ pub extern "C" fn pair_matrix_read(set: u32, file: &[u8], out: &mut [u8]) -> u32
 }
 
 // The list of the rows of a file that are tied, each with its digit, and how many they are.
-#[unsafe(no_mangle)]
-pub extern "C" fn pair_tied_rows(set: u32, file: &[u8], out: &mut [u8], count: &mut u64) -> u32
+pub fn pair_tied_rows(set: u32, file: &[u8], out: &mut [u8], count: &mut u64) -> u32
     ensures result { result ≡ tie_number set file.now (length out.old) }
     ensures count { count.new ≡ reported result (entry_count (tie_of_file (layout_of set) file.now)) }
     ensures output { out.new ≡ output result (tie_of_file (layout_of set) file.now) out.old }
@@ -68,14 +64,7 @@ pub extern "C" fn pair_tied_rows(set: u32, file: &[u8], out: &mut [u8], count: &
 }
 
 // The code of a key and a label.
-#[unsafe(no_mangle)]
-pub extern "C" fn pair_evaluate(
-    set: u32,
-    key: &[u8],
-    label: &[u8],
-    file: &[u8],
-    out: &mut [u8],
-) -> u32
+pub fn pair_evaluate(set: u32, key: &[u8], label: &[u8], file: &[u8], out: &mut [u8]) -> u32
     ensures result { result ≡ number_in set (evaluate_conditions (scheme_of set) key.now label.now (files file.now) (length out.old)) }
     ensures output { out.new ≡
         output result (code (scheme_of set) key.now label.now (files file.now)) out.old }
@@ -84,14 +73,7 @@ pub extern "C" fn pair_evaluate(
 }
 
 // A tape from source bytes, drawn from a starting pair on, and the next unread pair.
-#[unsafe(no_mangle)]
-pub extern "C" fn pair_sample(
-    set: u32,
-    start: u64,
-    source: &[u8],
-    out: &mut [u8],
-    next: &mut u64,
-) -> u32
+pub fn pair_sample(set: u32, start: u64, source: &[u8], out: &mut [u8], next: &mut u64) -> u32
     ensures result { result ≡ number_in set (sample_conditions (scheme_of set) source.now start (length out.old)) }
     ensures next { next.new ≡ reported result (next_pair (scheme_of set) source.now start) }
     ensures output { out.new ≡ output result (sampled (scheme_of set) source.now start) out.old }
@@ -103,8 +85,7 @@ pub extern "C" fn pair_sample(
 }
 
 // Both deal frames of a tape.
-#[unsafe(no_mangle)]
-pub extern "C" fn pair_deal(set: u32, session: u32, line: u8, tape: &[u8], out: &mut [u8]) -> u32
+pub fn pair_deal(set: u32, session: u32, line: u8, tape: &[u8], out: &mut [u8]) -> u32
     ensures result { result ≡ number_in set (deal_conditions (scheme_of set) no_files tape.now (length out.old)) }
     ensures output { out.new ≡ output result (dealt (scheme_of set) (shared_parameters session line) no_files tape.now) out.old }
     ensures accepted_tapes { InEachSet TakesAccepted }
@@ -114,8 +95,7 @@ pub extern "C" fn pair_deal(set: u32, session: u32, line: u8, tape: &[u8], out: 
 }
 
 // Both deal frames from source bytes, drawn from a starting pair on, and the next unread pair.
-#[unsafe(no_mangle)]
-pub extern "C" fn pair_deal_source(
+pub fn pair_deal_source(
     set: u32,
     session: u32,
     line: u8,
@@ -137,8 +117,7 @@ pub extern "C" fn pair_deal_source(
 }
 
 // The code of two share frames, side 0's first.
-#[unsafe(no_mangle)]
-pub extern "C" fn pair_join(set: u32, first: &[u8], second: &[u8], out: &mut [u8]) -> u32
+pub fn pair_join(set: u32, first: &[u8], second: &[u8], out: &mut [u8]) -> u32
     ensures result { result ≡ number_in set (join_conditions (scheme_of set) first.now second.now (length out.old)) }
     ensures output { out.new ≡ output result (joined (scheme_of set) first.now second.now) out.old }
 {
@@ -146,8 +125,7 @@ pub extern "C" fn pair_join(set: u32, first: &[u8], second: &[u8], out: &mut [u8
 }
 
 // The lowest number over all of the input, or 0 and the code, by running the dealer and both units of set 1 in session 1 and line 0.
-#[unsafe(no_mangle)]
-pub extern "C" fn pair_run(input: &[u8], out: &mut [u8]) -> u32
+pub fn pair_run(input: &[u8], out: &mut [u8]) -> u32
     ensures result { result ≡ run_number input.now (length out.old) }
     ensures output { out.new ≡ output result (run_code base input.now) out.old }
 {

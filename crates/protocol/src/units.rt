@@ -1,5 +1,5 @@
-// The C interface of the units: a state stands in a slice that the caller keeps. Each function is total over slices, answers a number of
-// the table, and neither allocates nor keeps a pointer.
+// The calls of the C interface on units, which `protocol_c` exports: a state stands in a slice that the caller keeps. Each function is
+// total over slices, answers a number of the table, and neither allocates nor keeps a pointer.
 ghost use Rattle.std.specs.Prelude.{◌≡◌, ◌≢◌, cond, length};
 ghost use Rattle.numbers.specs.Number.{at_front};
 ghost use Rattle.numbers.specs.Sets.{is_set};
@@ -21,8 +21,7 @@ use pair_steps::step::step_slice;
 
 // Begins a unit of a set in a slice. A refused beginning writes the idle state, since an old state would go on accepting frames; only a slice
 // of another length stays as it was. The slice then stands for the model's state, and lists of both calls are runs of the theorem.
-#[unsafe(no_mangle)]
-pub extern "C" fn pair_begin(
+pub fn pair_begin(
     set: u32,
     side: u32,
     session: u32,
@@ -51,14 +50,7 @@ pub extern "C" fn pair_begin(
 
 // One step of the unit in a slice, in its set: what it writes goes to `out`, and how much to `count`; a refused step leaves the slice as it
 // was. The theorem stands here for each set: the slice stands for the model's next state.
-#[unsafe(no_mangle)]
-pub extern "C" fn pair_step(
-    state: &mut [u8],
-    f: &[u8],
-    file: &[u8],
-    out: &mut [u8],
-    count: &mut u64,
-) -> u32
+pub fn pair_step(state: &mut [u8], f: &[u8], file: &[u8], out: &mut [u8], count: &mut u64) -> u32
     ensures result { result ≡ pair_step_number state.old f.now (files file.now) (length out.old) }
     ensures state { state.new ≡ pair_step_state state.old f.now (files file.now) (length out.old) }
     ensures output { out.new ≡
