@@ -17,7 +17,7 @@ need() {
     exit 2
 }
 
-# keep: a folder $kept outside target/, which the gate removes, for as long as the script runs
+# keep: a folder $kept outside the checkout, for as long as the script runs
 keep() {
     kept=$(mktemp -d)
     trap 'rm -rf "$kept"' EXIT
@@ -53,11 +53,19 @@ quietly() {
     fi
 }
 
-# library NAME: target/staticlib/libNAME.a, proved and built unless it is there and newer than every file of every crate
+# build NAME: target/staticlib/libNAME.a, proved and built by the crate NAME_c, which exports to C what the crate NAME has
+build() {
+    (cd "crates/$1_c" && quietly rt lib)
+    mkdir -p target/staticlib
+    cp "crates/$1_c/out/lib$1_c.a" "target/staticlib/lib$1.a.new"
+    mv -f "target/staticlib/lib$1.a.new" "target/staticlib/lib$1.a"
+}
+
+# library NAME: the same, unless it is there and newer than every file of every crate
 library() {
     built=target/staticlib/lib$1.a
-    if [ -f "$built" ] && [ -z "$(find crates crates.txt -type f -newer "$built" | head -n 1)" ]; then return; fi
+    if [ -f "$built" ] && [ -z "$(find crates crates.txt -name out -prune -o -type f -newer "$built" -print | head -n 1)" ]; then return; fi
     need rt "$INSTALL_RT"
     say "proving and building $built: some minutes, the first time"
-    quietly rt staticlib "$1"
+    build "$1"
 }

@@ -3,7 +3,7 @@
 use std::env;
 use std::path::PathBuf;
 
-/// The static libraries that tests link, each made by `rt staticlib NAME`.
+/// The static libraries that tests link, each made by `./library NAME`.
 const LIBRARIES: [&str; 3] = ["linear", "elimination_ties", "protocol"];
 
 fn main() {
@@ -25,7 +25,7 @@ fn main() {
     }
 }
 
-/// `SERVICE_PAIR_LIB`, or the folder that `rt staticlib` writes to.
+/// `SERVICE_PAIR_LIB`, or the folder that `./library` writes to.
 fn library_folder() -> PathBuf {
     match env::var_os("SERVICE_PAIR_LIB") {
         Some(folder) => PathBuf::from(folder),

@@ -252,7 +252,7 @@ static struct call {
     {"pair_deal", deal, 28, NULL, 0},
     {"pair_deal_source", deal_source, 34, NULL, 0},
     {"pair_deal_source, start 1", deal_source_inside, 34, NULL, 0},
-    {"pair_begin", begin, 1, NULL, 0},
+    {"pair_begin", begin, 2, NULL, 0},
     {"pair_step, deal", step_deal, 4, states[0], 0},
     {"pair_step, open", step_open, 31, states[1], 0},
     {"pair_step, mask", step_mask, 217, states[2], 0},

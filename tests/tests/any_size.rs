@@ -5,7 +5,7 @@
 #[cfg(missing_elimination_ties)]
 compile_error!(
     "libelimination_ties.a is not in target/staticlib (or in the folder that SERVICE_PAIR_LIB \
-     names): run `rt staticlib elimination_ties` in the repository's root to make it."
+     names): run `./library elimination_ties` in the repository's root to make it."
 );
 
 use service_pair_tests::guarded::Guarded;

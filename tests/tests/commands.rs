@@ -10,7 +10,7 @@ use std::fs::{self, File, Permissions};
 use std::io::Write;
 use std::os::unix::fs::{symlink, PermissionsExt};
 use std::path::PathBuf;
-use std::process::{Command, Stdio};
+use std::process::{self, Command, Stdio};
 use std::sync::{Mutex, MutexGuard, PoisonError};
 
 /// The repository's root.
@@ -41,7 +41,8 @@ fn alone() -> MutexGuard<'static, ()> {
 }
 
 /// A small repository with the commands as they are, two crates without code
-/// and, in `bin`, what stands for the toolchain.
+/// and, in `bin`, what stands for the toolchain. It stands outside of this one,
+/// since the gate refuses a second `crates.txt` below the first.
 struct Tree {
     root: PathBuf,
     _alone: MutexGuard<'static, ()>,
@@ -50,8 +51,8 @@ struct Tree {
 impl Tree {
     fn new(name: &str) -> Tree {
         let alone = alone();
-        let root = PathBuf::from(env!("CARGO_TARGET_TMPDIR")).join("commands").join(name);
-        // What an earlier run left.
+        let root = env::temp_dir().join(format!("service-pair-{}-{name}", process::id()));
+        // What a run that was killed left.
         let _ = fs::remove_dir_all(&root);
         for folder in ["bin", "elsewhere", "crates/first/src", "crates/service_pair/src"] {
             fs::create_dir_all(root.join(folder)).expect("a folder of the tree");
@@ -77,30 +78,24 @@ impl Tree {
 
     /// A program as if it had been proved and built: it prints its input.
     fn built(&self) {
-        fs::create_dir_all(self.root.join("target/bin")).expect("a folder of the tree");
-        self.script("target/bin/service_pair", "printf 'ran on '\ncat\n");
+        fs::create_dir_all(self.root.join("crates/service_pair/out")).expect("a folder");
+        self.script(PROGRAM, "printf 'ran on '\ncat\n");
     }
 
-    /// A toolchain whose `rt check` prints these lines and ends so.
-    fn checks(&self, lines: &str, status: u8) {
-        let only = "[ \"$*\" = 'check service_pair' ] || exit 9\n";
-        self.script("bin/rt", &format!("{only}cat <<'END'\n{lines}END\nexit {status}\n"));
+    /// A toolchain whose `rt run` says these lines, prints what a run on no
+    /// input prints, and ends so.
+    fn proves(&self, lines: &str, status: u8) {
+        let only = format!("{}echo 'ran on '\n", in_its_folder("run"));
+        self.script("bin/rt", &format!("{only}cat >&2 <<'END'\n{lines}END\nexit {status}\n"));
     }
 
-    /// A toolchain whose `rt try` prints, for each of these texts, a run that
-    /// found it. `INPUT` stands for the input that it was given.
-    fn tries(&self, found: &[&str]) {
-        let mut lines = String::from("[ \"$*\" = 'try service_pair' ] || exit 9\n");
-        lines += "[ -d crates/first/src ] && [ -d crates/service_pair/src ] || exit 9\n";
-        lines += "[ ! -e crates/service_pair/stdout ] || exit 9\n";
-        lines += "input=$(cat crates/service_pair/stdin)\nsed \"s/INPUT/$input/\" <<'END'\n";
-        for text in found {
-            lines += "FAIL: a run ended, but did not write what is expected\n";
-            lines += "on standard output, at byte 0, expected \"\", found \"";
-            lines += text;
-            lines += "\"\nwhat the run said:\nthe program exited with status 0\n";
-        }
-        self.script("bin/rt", &(lines + "END\nexit 1\n"));
+    /// A toolchain whose `rt try` prints this, says the last line and ends so.
+    /// `INPUT` stands for the input that it was given.
+    fn tries(&self, printed: &str, said: &str, status: u8) {
+        let mut lines = in_its_folder("try");
+        lines += &format!("input=$(cat)\nsed \"s/INPUT/$input/\" <<'END'\n{printed}END\n");
+        lines += "echo 'interpreter: ended status=0' >&2\n";
+        self.script("bin/rt", &format!("{lines}echo '{said}' >&2\nexit {status}\n"));
     }
 
     /// Runs a command of the tree from a folder of the tree.
@@ -120,9 +115,28 @@ impl Tree {
     }
 }
 
-const UNCHANGED: &str = "rt: first proved (unchanged since it was last proved)\n\
-                         rt: service_pair proved (unchanged since it was last proved)\n\
-                         rt: ok, 2 crates proved\n";
+impl Drop for Tree {
+    fn drop(&mut self) {
+        let _ = fs::remove_dir_all(&self.root);
+    }
+}
+
+/// Where `rt run` puts the program.
+const PROGRAM: &str = "crates/service_pair/out/service_pair";
+
+/// The first line of what stands for the toolchain: it is called with this word
+/// alone, in the folder of the program.
+fn in_its_folder(word: &str) -> String {
+    format!("[ \"$*\" = {word} ] && [ \"${{PWD##*/}}\" = service_pair ] || exit 9\n")
+}
+
+const UNCHANGED: &str =
+    "rt: nothing has changed since the last proved build, so nothing is checked now\n\
+                         rt: running out/service_pair\n";
+const FIRST: &str = "rt: chose --jobs 1 for first\nfn first::one: proved\n\
+                     logic=proved functions=1 sum=1\n";
+const SECOND: &str = "rt: chose --jobs 2 for service_pair\nfn service_pair::main: proved\n\
+                      logic=proved functions=1 sum=1\nrt: running out/service_pair\n";
 
 fn ran_on(input: &str) -> Ended {
     (Some(0), format!("ran on {input}"), String::new())
@@ -131,11 +145,13 @@ fn ran_on(input: &str) -> Ended {
 #[test]
 fn help_is_printed() {
     let tree = Tree::new("help");
-    tree.checks("", 9);
+    tree.proves("", 9);
     let (status, printed, said) = tree.run(&["--help"]);
     assert_eq!((status, &said[..]), (Some(0), ""));
     assert!(printed.starts_with("usage: ./run [--quick] [FILE | -]\n"), "{printed}");
-    for part in ["./run FILE ", "./run - ", "./run --quick ", "four to six minutes", "nothing is proved"] {
+    for part in
+        ["./run FILE ", "./run - ", "./run --quick ", "four to six minutes", "nothing is proved"]
+    {
         assert!(printed.contains(part), "{part}: {printed}");
     }
 }
@@ -143,7 +159,7 @@ fn help_is_printed() {
 #[test]
 fn wrong_words_get_a_usage_line() {
     let tree = Tree::new("words");
-    tree.checks("", 9);
+    tree.proves("", 9);
     let wrong: [&[&str]; 7] = [
         &["--other"],
         &["-x"],
@@ -162,7 +178,7 @@ fn wrong_words_get_a_usage_line() {
 #[test]
 fn what_is_no_file_gets_one_line() {
     let tree = Tree::new("files");
-    tree.checks("", 9);
+    tree.proves("", 9);
     tree.write("closed", "");
     fs::set_permissions(tree.root.join("closed"), Permissions::from_mode(0o000))
         .expect("permissions");
@@ -186,7 +202,7 @@ fn what_is_no_file_gets_one_line() {
 #[test]
 fn the_input_is_the_sample_a_file_or_standard_input() {
     let tree = Tree::new("inputs");
-    tree.checks(UNCHANGED, 0);
+    tree.proves(UNCHANGED, 0);
     tree.built();
     tree.write("input", "the root's");
     tree.write("elsewhere/input", "the caller's");
@@ -203,7 +219,7 @@ fn the_input_is_the_sample_a_file_or_standard_input() {
 #[test]
 fn links_to_run_work() {
     let tree = Tree::new("links");
-    tree.checks(UNCHANGED, 0);
+    tree.proves(UNCHANGED, 0);
     tree.built();
     tree.write("elsewhere/input", "the caller's");
     let links = [("straight", tree.path("run")), ("relative", "../run".into())];
@@ -230,11 +246,9 @@ fn crates_told(said: &str) -> Vec<String> {
 fn crates_are_told_as_they_are_proved() {
     let tree = Tree::new("progress");
     // The stand-in builds the program, which is not there before.
-    let lines = "echo 'fn first::one: proved'\necho 'rt: first proved (3 s)'\n\
-                 echo 'rt: service_pair proved (12 s)'\nmkdir -p target/bin\n\
-                 cp bin/program target/bin/service_pair\n";
+    let build = "mkdir -p out\ncp ../../bin/program out/service_pair\n";
     tree.script("bin/program", "printf 'ran on '\ncat\n");
-    tree.script("bin/rt", lines);
+    tree.script("bin/rt", &format!("{build}cat >&2 <<'END'\n{FIRST}{SECOND}END\n"));
     let (status, printed, said) = tree.run(&[]);
     assert_eq!((status, &printed[..]), (Some(0), "ran on sample"));
     assert!(
@@ -243,16 +257,14 @@ fn crates_are_told_as_they_are_proved() {
     );
     assert!(said.contains("./run --quick"), "{said}");
     assert_eq!(said.lines().count(), 3, "{said}");
-    let told = ["first proved (3 s): 1 of 2", "service_pair proved (12 s): 2 of 2"];
+    let told = ["first proved: 1 of 2", "service_pair proved: 2 of 2"];
     assert_eq!(crates_told(&said), told);
     // Later it only says what had to be proved again, and nothing where that is nothing.
-    let again = "rt: first proved (unchanged since it was last proved)\n\
-                 rt: service_pair proved (12 s)\n";
-    tree.checks(again, 0);
+    tree.proves(SECOND, 0);
     let (status, printed, said) = tree.run(&["-"]);
     assert_eq!((status, &printed[..]), (Some(0), "ran on given"));
     assert_eq!(crates_told(&said), told[1..]);
-    tree.checks(UNCHANGED, 0);
+    tree.proves(UNCHANGED, 0);
     assert_eq!(tree.run(&["-"]), ran_on("given"));
 }
 
@@ -261,10 +273,10 @@ fn what_is_not_proved_is_shown_and_not_run() {
     let tree = Tree::new("refused");
     // A program from before is there, and is not run.
     tree.built();
-    let lines =
-        "crates/first/src/lib.rt:1:1: error: an error\nrt: first NOT PROVED (exit 1, 3 s)\n";
+    let lines = "src/lib.rt:1:1: error: an error\n\
+                 rt: the library first did not build, so nothing above it was checked\n";
     for status in [1, 2, 3] {
-        tree.checks(lines, status);
+        tree.proves(lines, status);
         let (found, printed, said) = tree.run(&[]);
         assert_eq!((found, &printed[..]), (Some(status.into()), ""));
         assert!(said.ends_with(lines), "{said}");
@@ -274,7 +286,7 @@ fn what_is_not_proved_is_shown_and_not_run() {
 #[test]
 fn quick_prints_what_was_found_and_says_that_nothing_is_proved() {
     let tree = Tree::new("quick");
-    tree.tries(&[r"result of INPUT\n101\n"; 4]);
+    tree.tries("result of INPUT\n101\n", BOTH_ENDED, 0);
     tree.write("elsewhere/input", "file");
     let from_file = tree.ended("elsewhere", "../run", &["--quick", "input"]);
     let cases = [
@@ -287,21 +299,31 @@ fn quick_prints_what_was_found_and_says_that_nothing_is_proved() {
         assert!(said.starts_with("== nothing is proved by this: "), "{said}");
         assert_eq!(said.lines().count(), 1, "{said}");
     }
-    assert!(!tree.root.join("target").exists(), "nothing is built");
+    let made = ["target", "out", "crates/service_pair/out"].map(|name| tree.root.join(name));
+    assert!(!made.iter().any(|folder| folder.exists()), "nothing is built");
 }
 
+/// The last line of `rt try` where the interpreter and the compiled program did
+/// the same.
+const BOTH_ENDED: &str = "run=ended status=0 runners=2 proved=no";
+
 #[test]
-fn quick_wants_four_runs_that_print_the_same() {
+fn quick_wants_two_runs_that_print_the_same() {
     let tree = Tree::new("quick_refused");
-    let same = r"result 0\n";
-    let refused: [&[&str]; 4] =
-        [&[], &[same; 3], &[same, same, r"result 1\n", same], &[same, same, same, "\u{fffd}"]];
-    for found in refused {
-        tree.tries(found);
+    let refused = [
+        ("run=none proved=no", 2),
+        ("run=ended status=0 runners=1 proved=no", 0),
+        ("run=differs proved=no", 5),
+        ("run=fault proved=no", 4),
+        ("run=ended status=7 runners=2 proved=no", 7),
+        (BOTH_ENDED, 1),
+    ];
+    for (said_last, ended) in refused {
+        tree.tries("result 0\n", said_last, ended);
         let (status, printed, said) = tree.run(&["--quick"]);
-        assert_eq!((status, &printed[..]), (Some(1), ""), "{found:?}");
-        assert!(said.ends_with("its four runs did not print the same\n"), "{said}");
-        assert_eq!(said.matches("FAIL: ").count(), found.len(), "{said}");
+        assert_eq!((status, &printed[..]), (Some(1), ""), "{said_last}");
+        assert!(said.contains(&format!("interpreter: ended status=0\n{said_last}\n")), "{said}");
+        assert!(said.ends_with("its two runs did not print the same\n"), "{said}");
         assert!(!said.contains("nothing is proved"), "{said}");
     }
 }
@@ -350,11 +372,19 @@ fn a_part_that_fails_fails_the_whole() {
 /// What `./test` prints of each sort that its summary counts, twice where
 /// there may be several.
 const LINES: &str = "\
+rt: first: trying its must-fail edits (40)\n\
 logic=proved functions=0 sum=1 native=nat\n\
-rt: first proved (0 s)\n\
+rt: first proved\n\
 logic=proved functions=20 sum=1 native=nat\n\
+rt: second proved\n\
 logic=proved functions=3 sum=1 native=nat\n\
-rt: ok, 5 crates proved, 40 must-fail edits refused\n\
+rt: third_c proved\n\
+logic=proved functions=0 sum=1 native=nat\n\
+rt: fourth proved\n\
+logic=proved functions=0 sum=1 native=nat\n\
+rt: service_pair proved\n\
+rt: service_pair ran, and wrote what its file stdout has\n\
+rt: ok; handles allowed: none; must-fail edits: 40 refused; every proof and must-fail edit was done in this run\n\
 45 passed, 0 failed\n\
 slices: 600 calls between guards\n\
 secrets: 7 calls, reports counted\n\
@@ -391,6 +421,27 @@ fn the_summary_counts_what_was_printed() {
     assert_eq!(summary(&format!("{ignored}{said}")), expected(&format!("2: {secrets}; {tests}")));
 }
 
+/// Of a crate that an earlier run proved the gate does not say how many
+/// functions it has.
+#[test]
+fn the_summary_says_what_earlier_runs_proved() {
+    let kept =
+        "is kept: an earlier run on this machine proved the same files over the same libraries";
+    let second = LINES
+        .replace("logic=proved functions=20 sum=1 native=nat\n", "")
+        .replace("second proved", &format!("second {kept}"));
+    let (status, printed, said) = summary(&second);
+    assert_eq!((status, &said[..]), (Some(0), ""));
+    let numbers = "crates proved      5, of which 1 by earlier runs on this machine\n\
+                   functions proved   3 in this run\nedits refused      40\n";
+    assert!(printed.starts_with(numbers), "{printed}");
+    let all = LINES.lines().filter(|line| !line.contains("logic="));
+    let all: Vec<String> = all.map(|line| line.replace(" proved", &format!(" {kept}"))).collect();
+    let (status, printed, said) = summary(&all.join("\n"));
+    assert_eq!((status, &said[..]), (Some(0), ""));
+    assert!(printed.contains("\nfunctions proved   0 in this run\n"), "{printed}");
+}
+
 #[test]
 fn a_summary_without_a_number_fails() {
     let kinds = ["logic=", "rt: ok", "calls", "inputs tried", "test result"];
@@ -416,9 +467,8 @@ fn sample() -> Vec<u8> {
 #[test]
 fn a_proved_program_runs_at_once() {
     assert!(
-        repository().join("target/bin/service_pair").is_file(),
-        "target/bin/service_pair is missing: run `rt check service_pair` in the repository's root \
-         to make it."
+        repository().join(PROGRAM).is_file(),
+        "{PROGRAM} is missing: ./run in the repository's root makes it."
     );
     assert_eq!(real_run(&[], b""), (Some(0), program(&sample()), String::new()));
 }

@@ -16,16 +16,17 @@ use std::process::{Child, ChildStdin, Command, Stdio};
 use std::thread;
 use std::time::Duration;
 
-/// `SERVICE_PAIR_PROGRAM`, or where `rt check` links the program.
+/// `SERVICE_PAIR_PROGRAM`, or where `rt run` links the program.
 fn program_path() -> PathBuf {
     let path = match env::var_os("SERVICE_PAIR_PROGRAM") {
         Some(path) => PathBuf::from(path),
-        None => PathBuf::from(env!("CARGO_MANIFEST_DIR")).join("../target/bin/service_pair"),
+        None => PathBuf::from(env!("CARGO_MANIFEST_DIR"))
+            .join("../crates/service_pair/out/service_pair"),
     };
     assert!(
         path.is_file(),
-        "target/bin/service_pair (or the file that SERVICE_PAIR_PROGRAM names) is missing: run \
-         `rt check service_pair` in the repository's root to make it."
+        "crates/service_pair/out/service_pair (or the file that SERVICE_PAIR_PROGRAM names) is \
+         missing: ./run in the repository's root makes it."
     );
     path
 }

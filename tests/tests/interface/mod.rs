@@ -7,7 +7,7 @@
 #[cfg(missing_protocol)]
 compile_error!(
     "libprotocol.a is not in target/staticlib (or in the folder that SERVICE_PAIR_LIB names): \
-     run `rt staticlib protocol` in the repository's root to make it."
+     run `./library protocol` in the repository's root to make it."
 );
 
 use service_pair_tests::reference::frame::Shared;

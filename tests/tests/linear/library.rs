@@ -4,7 +4,7 @@
 #[cfg(missing_linear)]
 compile_error!(
     "liblinear.a is not in target/staticlib (or in the folder that SERVICE_PAIR_LIB names): \
-     run `rt staticlib linear` in the repository's root to make it."
+     run `./library linear` in the repository's root to make it."
 );
 
 mod linked {
