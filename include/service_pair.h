@@ -1,8 +1,8 @@
 /* The service pair: units, dealer, sampler, counter's join, evaluator and matrix file, for C11 and C++.
  *
- * Every function here is proved to meet its contract, for all inputs (crates/protocol/src/units.rt for
+ * Every function here is proved to meet its contract, for all inputs (crates/protocol_c/src/units.rt for
  * pair_begin and pair_step, interface.rt for all others).
- * Link target/staticlib/libprotocol.a, which `rt staticlib protocol` makes, or what `./install PREFIX` has put
+ * Link target/staticlib/libprotocol.a, which `./library protocol` makes, or what `./install PREFIX` has put
  * where pkg-config finds it (service_pair): for x86-64 Linux alone. It needs `memcpy` of the host, and may need
  * `memset`, and no other library. service_pair_text.h has a text for each number, a code's digits, and how to
  * wipe what was secret.
@@ -38,7 +38,7 @@
  *
  * STACK. What each call uses at most in any set, arguments and return address included, in KiB, rounded up:
  *
- *     pair_matrix_check  21.5     pair_evaluate     21.8     pair_begin             0.1
+ *     pair_matrix_check  21.5     pair_evaluate     21.8     pair_begin             0.2
  *     pair_matrix_read   21.6     pair_sample        0.7     pair_step, with deal   0.4
  *     pair_matrix_write  22.2     pair_deal          2.8     .. with open           3.1
  *     pair_tied_rows     29.0     pair_deal_source   3.4     .. with mask          21.7
@@ -47,7 +47,8 @@
  * What judges a matrix has room for all rows of set 3, whichever set is named. A program that looks for memcpy and
  * memset at their first use (lazy binding) takes about 3.1 KiB below where they are called, so pair_tied_rows 31.2 in
  * all where it is the first call; linked with -z now it does not. Measured, not proved: the library was made by the
- * toolchain rattle-kit-5b, its callers by GCC 12 and Clang 14.
+ * toolchain rattle-kit-13f, its callers by GCC 12 and Clang 14. Some calls of what rattle-kit-5b made took up to 0.2 more,
+ * for which there still is room here, and pair_begin 0.1.
  * tests/c/stack.c measures the table again.
  *
  * Calls do not clear the stack that they used, and copies of secrets stay there until something else is

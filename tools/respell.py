@@ -4,8 +4,10 @@
 usage: python3 tools/respell.py [--dry]     at the top, with what port.py wrote not committed yet
 
 Words are in snake case; types, facts and modules keep upper camel case. A dash stays in a name only where it joins two names of definitions;
-elsewhere it is `_`. The names are those that .antt files of specs/ and proofs/ declare. They are turned in .antt and .rt files, and with
-what port.py itself respelled in must-fail edits and in pages. Names that fall together in a file are listed, and stop the script.
+elsewhere it is `_`. A lemma that would get the name of a definition ends in `_lem`. The names are those that .antt files of specs/ and proofs/
+declare. They are turned in .antt and .rt files, and with what port.py itself respelled in must-fail edits and in pages; an edit of a definition
+gets its projections written tight too. Two names that fall together in a file are listed, and stop the script; a definition may have the name
+of a function of the code, and a field that of a field of the code (FIELDS_OF_BOTH).
 """
 
 import glob
