@@ -4,9 +4,11 @@
 
 use service_pair_tests::random::report;
 use std::collections::BTreeSet;
+use std::env;
 use std::fs;
+use std::ops::Deref;
 use std::path::{Path, PathBuf};
-use std::process::{Command, Output};
+use std::process::{self, Command, Output};
 
 /// A host as in the README, which prints every byte of the code.
 const HOST: &str = r#"
@@ -36,12 +38,31 @@ fn root() -> PathBuf {
     PathBuf::from(env!("CARGO_MANIFEST_DIR")).join("..")
 }
 
-/// An empty folder of this name, below the one that cargo gives to tests.
-fn folder(name: &str) -> PathBuf {
-    let folder = PathBuf::from(env!("CARGO_TARGET_TMPDIR")).join(name);
+/// A folder that goes with its value. It stands outside of the repository, since
+/// the gate refuses a link below that, and what is installed has some.
+struct Folder(PathBuf);
+
+impl Deref for Folder {
+    type Target = Path;
+
+    fn deref(&self) -> &Path {
+        &self.0
+    }
+}
+
+impl Drop for Folder {
+    fn drop(&mut self) {
+        let _ = fs::remove_dir_all(&self.0);
+    }
+}
+
+/// An empty folder of this name.
+fn folder(name: &str) -> Folder {
+    let folder = env::temp_dir().join(format!("service-pair-{}-{name}", process::id()));
+    // What a run that was killed left.
     let _ = fs::remove_dir_all(&folder);
     fs::create_dir_all(&folder).expect("a folder for the files");
-    folder
+    Folder(folder)
 }
 
 /// `./install` with these words, called in a folder of the caller's.
@@ -62,11 +83,12 @@ fn output(command: &mut Command) -> String {
     text(&stdout)
 }
 
-/// Installs in `prefix` below a new folder, and gives the whole path.
-fn installed(name: &str) -> PathBuf {
+/// Installs in `prefix` below a new folder, and gives that and the whole path.
+fn installed(name: &str) -> (Folder, PathBuf) {
     let folder = folder(name);
     output(&mut command(&folder, &["prefix"]));
-    folder.join("prefix")
+    let prefix = folder.join("prefix");
+    (folder, prefix)
 }
 
 /// Every file and link below a folder.
@@ -144,7 +166,7 @@ fn a_host_is_built_from_another_folder() {
         );
         return;
     }
-    let mut prefix = installed("install_host");
+    let (_folder, mut prefix) = installed("install_host");
     let host = folder("host");
     fs::write(host.join("host.c"), HOST).expect("the host is written");
     let name = format!("libservice_pair.so.{}", version(&prefix).split('.').next().unwrap_or(""));
@@ -177,7 +199,7 @@ fn a_host_is_built_from_another_folder() {
 
 #[test]
 fn the_libraries_export_the_interface_alone() {
-    let prefix = installed("install_names");
+    let (_folder, prefix) = installed("install_names");
     let functions = declared();
     assert!(functions.contains("pair_step") && functions.contains("pair_run"), "{functions:?}");
     let of_both = [
@@ -197,7 +219,7 @@ fn the_libraries_export_the_interface_alone() {
 
 #[test]
 fn versions_and_links_agree() {
-    let prefix = installed("install_links");
+    let (_folder, prefix) = installed("install_links");
     let version = version(&prefix);
     let numbers: Vec<&str> = version.split('.').collect();
     assert!(numbers.len() == 3 && numbers.iter().all(|part| part.parse::<u32>().is_ok()));
