@@ -1,8 +1,9 @@
 // Elimination: each row in turn, unless it has become zero, clears a column of the rows after it.
-ghost use Rattle.std.specs.Prelude.{◌≡◌, ℕ, ◌+◌, ◌*◌, ◌%◌, ◌<◌, ◌≤◌, length};
+ghost use Rattle.std.specs.Prelude.{◌≡◌, ℕ, ◌+◌, ◌*◌, ◌%◌, ◌<◌, ◌≤◌, ◌≢◌, length, None, IfSome};
+ghost use Rattle.std.specs.Option.{unwrap_or};
 ghost use Rattle.linear_model.specs.Bits.{bit_at};
 ghost use Rattle.linear_model.specs.Internal.Planes.{trit_of};
-ghost use Rattle.elimination_model.specs.Internal.Words.{word_trit, FitRow, FitRows, RowWritten, RowsWritten, ClearedWord, NonzeroColumn, Multiples, Entries, EntryWord, Table, Pivot, Turn, FirstTied};
+ghost use Rattle.elimination_model.specs.Internal.Words.{word_trit, FitRow, FitRows, RowWritten, RowsWritten, ClearedWord, Multiples, Entries, EntryWord, Table, Pivot, Turn, FirstTied};
 
 use elimination_rows::rows::{add_row, put_row};
 use linear_words::lanes::{Trits, add, multiply};
@@ -16,6 +17,7 @@ const TABLE_WORDS: usize = 66;
 pub struct Column {
     pub word: usize,
     pub bit: u32,
+    ghost in_word: { bit < 64 },
 }
 
 // A bit of `x` that is set.
@@ -23,32 +25,30 @@ fn set_bit(x: u64) -> u32
     requires { 0 < x }
     ensures { (result < 64) × (bit_at x result ≡ 1) }
 {
-    u64::trailing_zeros(x)
+    x.trailing_zeros()
 }
 
-// A column of the first `f` words in which the row from word `a` on is not 0; word `f` if there is none. It is the first, and nothing
-// depends on that.
-fn nonzero_column(words: &[u64], a: usize, w: usize, f: usize) -> Column
+// A column of the first `f` words in which the row from word `a` on is not 0, if there is one. It is the first, and nothing depends on that.
+fn nonzero_column(words: &[u64], a: usize, w: usize, f: usize) -> Option<Column>
     requires { (a + 2 * w ≤ length words.now) × (f ≤ w) }
-    ensures { NonzeroColumn w f words.now a result.word result.bit }
+    ensures found { IfSome result (λ column. (column.word < f) × (word_trit w words.now a column.word column.bit ≢ 0)) }
+    ensures zero_row { result ≡ None → (m : ℕ) → m < f → (k : ℕ) → word_trit w words.now a m k ≡ 0 }
 {
-    let mut m: usize = 0;
-    while m < f {
-        let some = words[a + m] | words[a + w + m];
+    for word in 0..f {
+        let some = words[a + word] | words[a + w + word];
         if some != 0 {
-            return Column {
-                word: m,
+            return Some(Column {
+                word,
                 bit: set_bit(some),
-            };
+            });
         }
-        m += 1;
     }
-    Column { word: f, bit: 0 }
+    None
 }
 
 // The digit of the row from word `a` on in a column.
 pub fn digit_in(words: &[u64], a: usize, w: usize, column: Column) -> usize
-    requires { (a + 2 * w ≤ length words.now) × (column.word < w) × (column.bit < 64) }
+    requires { (a + 2 * w ≤ length words.now) × (column.word < w) }
     ensures { result ≡ word_trit w words.now a column.word column.bit }
 {
     let x = words[a + column.word];
@@ -58,24 +58,13 @@ pub fn digit_in(words: &[u64], a: usize, w: usize, column: Column) -> usize
 
 // Fills the table: entry `d` is the row from word `a` on times 2 d p, so that a row with digit `d` where this one has `p` becomes 0 there
 // when the entry is added. A row with its planes exchanged is its negative.
+#[inline(always)]
 fn fill_table(words: &[u64], a: usize, w: usize, p: usize, table: &mut [u64])
     requires { FitRow w words.now a × (0 < p) × (p < 3) × Table w table.old }
     ensures { Multiples w words.now a p table.new }
 {
     put_row(words, a, a + w, table, 2 * w * (3 - p), w);
     put_row(words, a + w, a, table, 2 * w * p, w);
-}
-
-// The same. One word is written out, so that it gets code of its own; two and four do not come here (`first_tied`), and for longer rows filling
-// is little beside clearing.
-fn fill_table_by_size(words: &[u64], a: usize, w: usize, p: usize, table: &mut [u64])
-    requires { FitRow w words.now a × (0 < p) × (p < 3) × Table w table.old }
-    ensures { Multiples w words.now a p table.new }
-{
-    if w == 1 {
-        return fill_table(words, a, 1, p, table);
-    }
-    fill_table(words, a, w, p, table);
 }
 
 // The digit in place `bit` of `s`, times `e`.
@@ -107,7 +96,7 @@ fn add_entry_by_mask(words: &mut [u64], table: &[u64], b: usize, bit: u32)
 
 // Adds to the row from word `b` on the entry of its digit in a column.
 fn add_entry(words: &mut [u64], table: &[u64], w: usize, b: usize, column: Column)
-    requires { FitRow w words.old b × Entries w table.now × (column.word < w) × (column.bit < 64) }
+    requires { FitRow w words.old b × Entries w table.now × (column.word < w) }
     ensures { RowWritten w b w (EntryWord w table.now words.old b column.word column.bit) words.old words.new }
 {
     if w == 1 {
@@ -118,47 +107,20 @@ fn add_entry(words: &mut [u64], table: &[u64], w: usize, b: usize, column: Colum
 }
 
 // Clears a column of the rows after row `r`: each gets the entry of its digit there.
+// Stay parameters, here and below: the words and their sizes are the public functions' own, and a struct of them would be no plainer, since the
+// rows that are added stand in two slices of the same size.
+#[inline(always)]
 fn clear_rows(words: &mut [u64], table: &[u64], w: usize, t: usize, r: usize, column: Column)
     requires { Turn w t r column.word column.bit words.old table.now }
     ensures { RowsWritten w (r + 1) t (ClearedWord w r column.word column.bit words.old) words.old words.new }
 {
-    let mut i = r + 1;
-    let mut b = 2 * w * i;
-    while i < t {
-        add_entry(words, table, w, b, column);
-        i += 1;
-        b += 2 * w;
+    for i in r + 1..t {
+        add_entry(words, table, w, 2 * w * i, column);
     }
-}
-
-// The same, with the sizes in use written out but for two and four words (`first_tied`).
-fn clear_rows_by_size(
-    words: &mut [u64],
-    table: &[u64],
-    w: usize,
-    t: usize,
-    r: usize,
-    column: Column,
-)
-    requires { Turn w t r column.word column.bit words.old table.now }
-    ensures { RowsWritten w (r + 1) t (ClearedWord w r column.word column.bit words.old) words.old words.new }
-{
-    if w == 1 {
-        return clear_rows(words, table, 1, t, r, column);
-    }
-    if w == 6 {
-        return clear_rows(words, table, 6, t, r, column);
-    }
-    if w == 8 {
-        return clear_rows(words, table, 8, t, r, column);
-    }
-    if w == 11 {
-        return clear_rows(words, table, 11, t, r, column);
-    }
-    clear_rows(words, table, w, t, r, column);
 }
 
 // The turn of row `r`, which is not 0 in a column: it clears this column of the rows after it.
+#[inline(always)]
 fn take_turn(words: &mut [u64], table: &mut [u64], w: usize, t: usize, r: usize, column: Column)
     requires { Pivot w t r column.word column.bit words.old × Table w table.old }
     ensures rows { RowsWritten w (r + 1) t (ClearedWord w r column.word column.bit words.old) words.old words.new }
@@ -166,36 +128,43 @@ fn take_turn(words: &mut [u64], table: &mut [u64], w: usize, t: usize, r: usize,
 {
     let a = 2 * w * r;
     let p = digit_in(words, a, w, column);
-    fill_table_by_size(words, a, w, p, table);
-    clear_rows_by_size(words, table, w, t, r, column);
+    fill_table(words, a, w, p, table);
+    clear_rows(words, table, w, t, r, column);
 }
 
-// The first of `t` rows that is tied to the rows before it in the columns of the first `f` words; `t` if there is none. What the rows carry
-// behind these words is added with them. Turns of two and four words to a plane are written out here, where the compiler sees that `table`
-// is apart from `words`: it copies two words at once, so that the sums, which read two at once, need not wait for single ones.
-pub fn first_tied(words: &mut [u64], w: usize, f: usize, t: usize) -> usize
+// The first of `t` rows that is tied to the rows before it in the columns of the first `f` words, if there is one. What the rows carry behind
+// these words is added with them. All is in line where the table is made, so that the compiler sees that `table` is apart from `words`: it
+// copies two words at once, and the sums, which read two at once, need not wait for single ones.
+#[inline(always)]
+fn first_tied_of(words: &mut [u64], w: usize, f: usize, t: usize) -> Option<usize>
     requires { (w ≤ 11) × (f ≤ w) × FitRows w t words.old }
-    ensures { FirstTied w f t words.old words.new result }
+    ensures row { IfSome result (λ r. r < t) }
+    ensures tied { FirstTied w f t words.old words.new (unwrap_or result t) }
 {
-    let mut table = [0u64; TABLE_WORDS];
-    let mut r: usize = 0;
-    while r < t {
-        let column = nonzero_column(words, 2 * w * r, w, f);
-        if f <= column.word {
-            return r;
-        }
-        if w == 2 {
-            let p = digit_in(words, 4 * r, 2, column);
-            fill_table(words, 4 * r, 2, p, &mut table);
-            clear_rows(words, &table, 2, t, r, column);
-        } else if w == 4 {
-            let p = digit_in(words, 8 * r, 4, column);
-            fill_table(words, 8 * r, 4, p, &mut table);
-            clear_rows(words, &table, 4, t, r, column);
-        } else {
-            take_turn(words, &mut table, w, t, r, column);
-        }
-        r += 1;
+    let mut table = [0; TABLE_WORDS];
+    for r in 0..t {
+        let Some(column) = nonzero_column(words, 2 * w * r, w, f) else {
+            return Some(r);
+        };
+        take_turn(words, &mut table, w, t, r, column);
     }
-    t
+    None
+}
+
+// The same, with the sizes in use written out, so that each gets code of its own.
+// Stays a parameter, `w` can be no const parameter: rows of any other size have the same code, with the size known only then.
+pub fn first_tied(words: &mut [u64], w: usize, f: usize, t: usize) -> Option<usize>
+    requires { (w ≤ 11) × (f ≤ w) × FitRows w t words.old }
+    ensures row { IfSome result (λ r. r < t) }
+    ensures tied { FirstTied w f t words.old words.new (unwrap_or result t) }
+{
+    match w {
+        1 => first_tied_of(words, 1, f, t),
+        2 => first_tied_of(words, 2, f, t),
+        4 => first_tied_of(words, 4, f, t),
+        6 => first_tied_of(words, 6, f, t),
+        8 => first_tied_of(words, 8, f, t),
+        11 => first_tied_of(words, 11, f, t),
+        _ => first_tied_of(words, w, f, t),
+    }
 }

@@ -16,8 +16,7 @@ fn diagonal_word(r: usize, m: usize) -> u64
     if r / 64 != m {
         return 0;
     }
-    let one: u64 = 1;
-    one << (r % 64)
+    1 << (r % 64)
 }
 
 // Word `m` of each plane of row `r`: of its first `f` words, which are those of row `i` of the bytes, or of what it carries behind them.
@@ -41,12 +40,10 @@ fn load_row(rows: &[u8], bytes: usize, i: usize, words: &mut [u64], w: usize, f:
     ensures { RowWritten w (2 * w * r) w (LoadedWord f (λ _. trit_at bytes rows.now i) r) words.old words.new }
 {
     let b = 2 * w * r;
-    let mut m: usize = 0;
-    while m < w {
+    for m in 0..w {
         let s = row_word(rows, bytes, i, f, r, m);
         words[b + m] = s.low;
         words[b + w + m] = s.high;
-        m += 1;
     }
 }
 
@@ -63,14 +60,13 @@ fn load_rows(
     requires { (8 * f ≤ bytes) × (2 * bytes * n ≤ length rows.now) × (2 * w * (first + n) ≤ length words.old) × (first + n < 2 ^ 64) }
     ensures { RowsWritten w first (first + n) (LoadedWord f (rows_after first bytes rows.now)) words.old words.new }
 {
-    let mut i: usize = 0;
-    while i < n {
+    for i in 0..n {
         load_row(rows, bytes, i, words, w, f, first + i);
-        i += 1;
     }
 }
 
 // The same. Written out are the sizes of rows that carry nothing and are looked at first, and of the shortest that carry something.
+// Stay parameters, `w` and `f` can be no const parameters: rows of any other size have the same code, with the sizes known only then.
 pub fn load_rows_by_size(
     rows: &[u8],
     bytes: usize,
@@ -83,21 +79,11 @@ pub fn load_rows_by_size(
     requires { (8 * f ≤ bytes) × (2 * bytes * n ≤ length rows.now) × (2 * w * (first + n) ≤ length words.old) × (first + n < 2 ^ 64) }
     ensures { RowsWritten w first (first + n) (LoadedWord f (rows_after first bytes rows.now)) words.old words.new }
 {
-    if w == f {
-        if f == 1 {
-            return load_rows(rows, bytes, n, words, 1, 1, first);
-        }
-        if f == 2 {
-            return load_rows(rows, bytes, n, words, 2, 2, first);
-        }
-        if f == 4 {
-            return load_rows(rows, bytes, n, words, 4, 4, first);
-        }
+    match (w, f) {
+        (1, 1) => load_rows(rows, bytes, n, words, 1, 1, first),
+        (2, 2) => load_rows(rows, bytes, n, words, 2, 2, first),
+        (4, 4) => load_rows(rows, bytes, n, words, 4, 4, first),
+        (2, 1) => load_rows(rows, bytes, n, words, 2, 1, first),
+        _ => load_rows(rows, bytes, n, words, w, f, first),
     }
-    if w == 2 {
-        if f == 1 {
-            return load_rows(rows, bytes, n, words, 2, 1, first);
-        }
-    }
-    load_rows(rows, bytes, n, words, w, f, first);
 }

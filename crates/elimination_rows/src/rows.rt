@@ -10,8 +10,7 @@ pub fn add_row(table: &[u64], a: usize, words: &mut [u64], b: usize, w: usize)
     requires { FitRow w table.now a × FitRow w words.old b }
     ensures { RowWritten w b w (SumWord w table.now a words.old b) words.old words.new }
 {
-    let mut m: usize = 0;
-    while m < w {
+    for m in 0..w {
         let s = add(
             Trits {
                 low: words[b + m],
@@ -24,7 +23,6 @@ pub fn add_row(table: &[u64], a: usize, words: &mut [u64], b: usize, w: usize)
         );
         words[b + m] = s.low;
         words[b + w + m] = s.high;
-        m += 1;
     }
 }
 
@@ -34,10 +32,8 @@ fn copy_words(words: &[u64], a: usize, table: &mut [u64], e: usize, n: usize)
     requires { (a + n ≤ length words.now) × (e + n ≤ length table.old) }
     ensures { Overwritten (word_after words.now a) e n table.old table.new }
 {
-    let mut m: usize = 0;
-    while m < n {
+    for m in 0..n {
         table[e + m] = words[a + m];
-        m += 1;
     }
 }
 

@@ -28,13 +28,11 @@ fn leading_digit(words: &[u64], w: usize, f: usize, r: usize) -> usize
     requires { CarryingRow w f r words.now × (carried_at w f words.now r r % 3 ≢ 0) }
     ensures { result ≡ leading_digit (suc r) (carried_at w f words.now r) }
 {
-    let mut k: usize = 0;
-    while k < r {
+    for k in 0..r {
         let d = carried_digit(words, w, f, r, k);
         if d != 0 {
             return d;
         }
-        k += 1;
     }
     carried_digit(words, w, f, r, r)
 }
@@ -45,30 +43,28 @@ fn put_entries(words: &[u64], w: usize, f: usize, r: usize, lead: usize, out: &m
     ensures count { result ≡ entry_count (entries_from 0 (tabulate (suc r) (λ k. lead * carried_at w f words.now r k % 3))) }
     ensures output { out.new ≡ at_front (entries_from 0 (tabulate (suc r) (λ k. lead * carried_at w f words.now r k % 3))) out.old }
 {
-    let mut n: usize = 0;
-    let mut k: usize = 0;
-    while k <= r {
+    let mut n = 0;
+    for k in 0..r + 1 {
         let x = lead * carried_digit(words, w, f, r, k) % 3;
         if x != 0 {
             out[2 * n] = k as u8;
             out[2 * n + 1] = x as u8;
             n += 1;
         }
-        k += 1;
     }
     n
 }
 
 // Writes the tie of `t` rows, in the columns of their first `f` words, and says how many entries it has; none where they are not tied.
+// Stays a count with 0 for none: C gets it so of `tie_of_rows`.
 pub fn put_tie(words: &mut [u64], w: usize, f: usize, t: usize, out: &mut [u8]) -> usize
     requires { Carrying w f t words.old × (w ≤ 11) × (t ≤ 256) × (2 * t ≤ length out.old) }
     ensures count { result ≡ entry_count (tie_bytes (64 * f) t (digit_at w words.old)) }
     ensures output { out.new ≡ at_front (tie_bytes (64 * f) t (digit_at w words.old)) out.old }
 {
-    let r = first_tied(words, w, f, t);
-    if r == t {
+    let Some(r) = first_tied(words, w, f, t) else {
         return 0;
-    }
+    };
     let lead = leading_digit(words, w, f, r);
     put_entries(words, w, f, r, lead, out)
 }

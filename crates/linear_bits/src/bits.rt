@@ -3,17 +3,15 @@
 ghost use Rattle.std.specs.Prelude.{◌≡◌, ◌≤◌, length};
 ghost use Rattle.linear_model.specs.Bits.{add_bits};
 
-use linear_words::bytes::{byte_at, least};
+use linear_words::bytes::byte_at;
 use linear_words::words::{put_word, word};
 
 // The sum of two bit strings modulo 2, byte by byte.
 fn add_bytes(a: &[u8], b: &[u8], out: &mut [u8])
     ensures { out.new ≡ add_bits (length out.old) a.now b.now }
 {
-    let mut i: usize = 0;
-    while i < out.len() {
+    for i in 0..out.len() {
         out[i] = byte_at(a, i) ^ byte_at(b, i);
-        i += 1;
     }
 }
 
@@ -22,15 +20,26 @@ fn add_words(a: &[u8], b: &[u8], n: usize, out: &mut [u8])
     requires { (8 ≤ n) × (n ≡ length out.old) × (n ≤ length a.now) × (n ≤ length b.now) }
     ensures { out.new ≡ add_bits (length out.old) a.now b.now }
 {
-    let mut i: usize = 0;
-    while i < n {
-        let p = least(i, n - 8);
-        let q = least(i + 8, n - 8);
+    for k in 0..n.div_ceil(16) {
+        let p = (16 * k).min(n - 8);
+        let q = (16 * k + 8).min(n - 8);
         let first = word(a, p) ^ word(b, p);
         let second = word(a, q) ^ word(b, q);
         put_word(out, p, first);
         put_word(out, q, second);
-        i += 16;
+    }
+}
+
+// The same of any size: by words where all words are there.
+#[inline(never)]
+fn add_any(a: &[u8], b: &[u8], out: &mut [u8])
+    ensures { out.new ≡ add_bits (length out.old) a.now b.now }
+{
+    let n = out.len();
+    if 8 <= n && n <= a.len() && n <= b.len() {
+        add_words(a, b, n, out);
+    } else {
+        add_bytes(a, b, out);
     }
 }
 
@@ -38,34 +47,21 @@ fn add_words(a: &[u8], b: &[u8], n: usize, out: &mut [u8])
 pub fn add_bits(a: &[u8], b: &[u8], out: &mut [u8])
     ensures { out.new ≡ add_bits (length out.old) a.now b.now }
 {
-    let n = out.len();
-    if 8 <= n && n <= a.len() && n <= b.len() {
-        if n == 32 {
-            add_words(a, b, 32, out);
-            return;
-        }
-        if n == 8 {
-            add_words(a, b, 8, out);
-            return;
-        }
-        if n == 64 {
-            add_words(a, b, 64, out);
-            return;
-        }
-        add_words(a, b, n, out);
-        return;
+    // Stays a length that is passed: with a const parameter the words would need a second function, for all other sizes.
+    match out.len() {
+        64 if 64 <= a.len() && 64 <= b.len() => add_words(a, b, 64, out),
+        32 if 32 <= a.len() && 32 <= b.len() => add_words(a, b, 32, out),
+        8 if 8 <= a.len() && 8 <= b.len() => add_words(a, b, 8, out),
+        _ => add_any(a, b, out),
     }
-    add_bytes(a, b, out);
 }
 
 // Adds a bit string to another in place, modulo 2, byte by byte.
 fn add_bytes_to(a: &[u8], out: &mut [u8])
     ensures { out.new ≡ add_bits (length out.old) out.old a.now }
 {
-    let mut i: usize = 0;
-    while i < out.len() {
+    for i in 0..out.len() {
         out[i] = out[i] ^ byte_at(a, i);
-        i += 1;
     }
 }
 
@@ -75,13 +71,24 @@ fn add_words_to(a: &[u8], n: usize, out: &mut [u8])
     ensures { out.new ≡ add_bits (length out.old) out.old a.now }
 {
     let last = word(out, n - 8) ^ word(a, n - 8);
-    let mut i: usize = 0;
-    while i + 8 <= n {
-        put_word(out, i, word(out, i) ^ word(a, i));
-        i += 8;
+    for k in 0..n / 8 {
+        put_word(out, 8 * k, word(out, 8 * k) ^ word(a, 8 * k));
     }
-    if i < n {
+    if n % 8 != 0 {
         put_word(out, n - 8, last);
+    }
+}
+
+// The same of any size: by words where all words are there.
+#[inline(never)]
+fn add_any_to(a: &[u8], out: &mut [u8])
+    ensures { out.new ≡ add_bits (length out.old) out.old a.now }
+{
+    let n = out.len();
+    if 8 <= n && n <= a.len() {
+        add_words_to(a, n, out);
+    } else {
+        add_bytes_to(a, out);
     }
 }
 
@@ -89,22 +96,11 @@ fn add_words_to(a: &[u8], n: usize, out: &mut [u8])
 pub fn add_bits_to(a: &[u8], out: &mut [u8])
     ensures { out.new ≡ add_bits (length out.old) out.old a.now }
 {
-    let n = out.len();
-    if 8 <= n && n <= a.len() {
-        if n == 32 {
-            add_words_to(a, 32, out);
-            return;
-        }
-        if n == 8 {
-            add_words_to(a, 8, out);
-            return;
-        }
-        if n == 64 {
-            add_words_to(a, 64, out);
-            return;
-        }
-        add_words_to(a, n, out);
-        return;
+    // Stays a length that is passed: with a const parameter the words would need a second function, for all other sizes.
+    match out.len() {
+        64 if 64 <= a.len() => add_words_to(a, 64, out),
+        32 if 32 <= a.len() => add_words_to(a, 32, out),
+        8 if 8 <= a.len() => add_words_to(a, 8, out),
+        _ => add_any_to(a, out),
     }
-    add_bytes_to(a, out);
 }

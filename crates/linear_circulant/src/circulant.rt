@@ -7,7 +7,7 @@ ghost use Rattle.linear_model.specs.Internal.Words.{shift_term};
 
 use crate::quarters;
 use linear_rotations::rotations;
-use linear_words::bytes::{byte_at, wide};
+use linear_words::bytes::byte_at;
 use linear_words::words::word_at;
 use linear_words::{bytes, words};
 
@@ -29,10 +29,8 @@ fn circulant_rows(key: &[u8], x: &[u8], n: usize, p: usize) -> u8
     ensures { result ≡ byte_of (bit_row n (circulant n key.now) x.now) p }
 {
     let mut acc: u8 = 0;
-    let mut q: usize = 0;
-    while q < 8 {
+    for q in 0..8 {
         acc |= row_bit(key, x, n, p, q) << q;
-        q += 1;
     }
     acc
 }
@@ -42,10 +40,8 @@ fn circulant_bytes(key: &[u8], label: &[u8], out: &mut [u8])
     ensures { out.new ≡ circulant_product (length out.old) key.now label.now }
 {
     let n = out.len();
-    let mut i: usize = 0;
-    while i < n {
+    for i in 0..n {
         out[i] = circulant_rows(key, label, n, i);
-        i += 1;
     }
 }
 
@@ -78,7 +74,7 @@ fn window(s: &[u8], i: usize, q: usize) -> u64
     if q == 0 {
         return low;
     }
-    (low >> q) | (wide(byte_at(s, i + 8)) << (64 - q))
+    (low >> q) | (u64::from(byte_at(s, i + 8)) << (64 - q))
 }
 
 // The bits of `a` times those of `b` from 8p + q on, modulo 2.
@@ -86,12 +82,9 @@ fn dot(a: &[u8], b: &[u8], n: usize, p: usize, q: usize) -> u8
     requires { (p ≤ n) × (q < 8) × (length b.now ≤ n) × (n < 2 ^ 63) }
     ensures { result ≡ sum (8 * n) (shift_term a.now b.now (8 * p + q)) % 2 }
 {
-    let end = n - p;
     let mut acc: u64 = 0;
-    let mut w: usize = 0;
-    while w < end {
+    for w in (0..n - p).step_by(8) {
         acc ^= word_at(a, w) & window(b, p + w, q);
-        w += 8;
     }
-    (u64::count_ones(acc) % 2) as u8
+    (acc.count_ones() % 2) as u8
 }

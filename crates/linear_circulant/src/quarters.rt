@@ -3,7 +3,6 @@
 // where all quarters add to the lowest quarter of the product, and on the same rotated by one, two and three quarters more, where they add to
 // the others.
 ghost use Rattle.std.specs.Prelude.{◌≡◌, ℕ, ◌-◌, ◌*◌, ◌/◌, ◌%◌, ◌^◌, ◌<◌};
-ghost use Rattle.std.specs.Int.Bits.{bit_or};
 ghost use Rattle.linear_model.specs.Bits.{bit_at, from_bits};
 ghost use Rattle.linear_model.specs.Internal.Rotations.{word_product, quarters_bit};
 
@@ -12,14 +11,6 @@ fn quarter_masks(x: u64) -> u64
     ensures { (i : ℕ) → i < 64 → bit_at result i ≡ bit_at x (16 * (i / 16)) }
 {
     (x & 0x1_0001_0001_0001) * 0xffff
-}
-
-// `x` rotated right by `n`.
-fn rotated(x: u64, n: usize) -> u64
-    requires { (0 < n) × (n < 64) }
-    ensures { result ≡ bit_or (x / 2 ^ n) (x * 2 ^ (64 - n) % 2 ^ 64) }
-{
-    (x >> n) | (x << (64 - n))
 }
 
 // All quarters of a word added up.
@@ -33,22 +24,18 @@ fn quarters_added(x: u64) -> u64
 pub fn product(key: u64, label: u64) -> u64
     ensures { result ≡ from_bits 64 (word_product key label) }
 {
-    let mut k = key;
     let mut x = label;
     let mut first: u64 = 0;
     let mut second: u64 = 0;
     let mut third: u64 = 0;
     let mut fourth: u64 = 0;
-    let mut q: usize = 0;
-    while q < 16 {
-        let m = quarter_masks(k);
+    for q in 0..16u32 {
+        let m = quarter_masks(key >> q);
         first ^= m & x;
-        second ^= m & rotated(x, 16);
-        third ^= m & rotated(x, 32);
-        fourth ^= m & rotated(x, 48);
-        x = rotated(x, 1);
-        k = k >> 1;
-        q += 1;
+        second ^= m & x.rotate_right(16);
+        third ^= m & x.rotate_right(32);
+        fourth ^= m & x.rotate_right(48);
+        x = x.rotate_right(1);
     }
     quarters_added(first)
         | quarters_added(second) << 16

@@ -23,7 +23,7 @@ fn digit(x: u8, u: u8, k: usize) -> usize
     requires { k < 8 }
     ensures { result ≡ trit_of x u k % 3 }
 {
-    (((x >> k) % 2 + 2 * ((u >> k) % 2)) % 3) as usize
+    usize::from(((x >> k) % 2 + 2 * ((u >> k) % 2)) % 3)
 }
 
 // The digits of bytes `x`, `u` times those of bytes `y`, `w`, one by one, added up modulo 3.
@@ -31,10 +31,8 @@ fn digits_product(x: u8, u: u8, y: u8, w: u8) -> u8
     ensures { result ≡ sum 8 (trit_product x u y w) % 3 }
 {
     let mut acc: u8 = 0;
-    let mut k: usize = 0;
-    while k < 8 {
+    for k in 0..8 {
         acc += product(digit(x, u, k), digit(y, w, k));
-        k += 1;
     }
     acc % 3
 }
@@ -58,10 +56,8 @@ pub fn row_product(row: &[u8], v: &[u8], m: usize, first: usize, before: u8) -> 
     ensures { result ≡ row_product m row.now v.now }
 {
     let mut acc = before;
-    let mut i = first;
-    while i < m {
+    for i in first..m {
         acc = (acc + byte_product(row, v, m, i)) % 3;
-        i += 1;
     }
     acc
 }

@@ -1,5 +1,5 @@
 // A matrix whose rows need not all be there: a byte past its end counts as 0. Rows are taken digit by digit.
-ghost use Rattle.std.specs.Prelude.{◌≡◌, ◌++◌, ◌+◌, ◌-◌, ◌*◌, ◌/◌, ◌≤◌, min, length, drop};
+ghost use Rattle.std.specs.Prelude.{◌≡◌, ◌++◌, ◌+◌, ◌*◌, ◌/◌, length, drop};
 ghost use Rattle.linear_model.specs.Tables.{below};
 ghost use Rattle.linear_model.specs.Products.{row_digit, matrix_product};
 ghost use Rattle.linear_model.specs.Internal.Planes.{PlaneBits};
@@ -7,33 +7,6 @@ ghost use Rattle.linear_model.specs.Internal.Planes.{PlaneBits};
 use crate::digits;
 use linear_words::bytes;
 use linear_words::lanes::Planes;
-
-// `a` less `b`, and 0 where `b` is more.
-fn less(a: usize, b: usize) -> usize
-    ensures { result ≡ a - b }
-{
-    if b <= a { a - b } else { 0 }
-}
-
-// `at` moved on by `step`, within `len`.
-fn forward(len: usize, at: usize, step: usize) -> usize
-    requires { at ≤ len }
-    ensures { result ≡ min (at + step) len }
-{
-    if step <= len - at { at + step } else { len }
-}
-
-// `at` moved on by eight times `step`, within `len`.
-fn forward_eight(len: usize, at: usize, step: usize) -> usize
-    requires { at ≤ len }
-    ensures { result ≡ min (at + 8 * step) len }
-{
-    if step <= (len - at) / 8 {
-        at + 8 * step
-    } else {
-        len
-    }
-}
 
 // The first row of a matrix of `t` rows, times `v`; of no rows, 0.
 fn first_row(rows: &[u8], v: &[u8], t: usize) -> u8
@@ -51,18 +24,13 @@ fn eight_rows(rows: &[u8], v: &[u8], t: usize) -> Planes
     ensures { PlaneBits 8 (below t (row_digit (length v.now / 2) rows.now v.now)) 0 result.low result.high }
 {
     let step = v.len() / 2 * 2;
-    let mut at: usize = 0;
-    let mut left = t;
     let mut lo: u8 = 0;
     let mut hi: u8 = 0;
-    let mut q: usize = 0;
-    while q < 8 {
-        let d = first_row(bytes::skip(rows, at), v, left);
+    for q in 0..8 {
+        let row = bytes::skip(rows, step.saturating_mul(q));
+        let d = first_row(row, v, t.saturating_sub(q));
         lo |= (d % 2) << q;
         hi |= (d / 2) << q;
-        at = forward(rows.len(), at, step);
-        left = less(left, 1);
-        q += 1;
     }
     Planes { low: lo, high: hi }
 }
@@ -75,15 +43,10 @@ pub fn matrix_product(rows: &[u8], v: &[u8], t: usize, out: &mut [u8])
 {
     let step = v.len() / 2 * 2;
     let n = out.len() / 2;
-    let mut at: usize = 0;
-    let mut left = t;
-    let mut p: usize = 0;
-    while p < n {
-        let e = eight_rows(bytes::skip(rows, at), v, left);
+    for p in 0..n {
+        let eight = bytes::skip(rows, step.saturating_mul(p).saturating_mul(8));
+        let e = eight_rows(eight, v, t.saturating_sub(p.saturating_mul(8)));
         out[p] = e.low;
         out[n + p] = e.high;
-        at = forward_eight(rows.len(), at, step);
-        left = less(left, 8);
-        p += 1;
     }
 }

@@ -6,63 +6,58 @@ ghost use Rattle.linear_model.specs.Products.{row_product, row_digit, matrix_pro
 ghost use Rattle.linear_model.specs.Internal.Planes.{PlaneBits};
 
 use linear_digits::{digits, partial};
+use linear_words::lanes;
 use linear_words::lanes::Planes;
 use linear_words::words::word;
-use linear_words::{bytes, lanes};
 
-// What columns 8i to 8i + 63 of the row at byte `at` give, modulo 3, its remainder not taken yet.
-fn row_word(rows: &[u8], v: &[u8], m: usize, at: usize, i: usize) -> u64
-    requires { (at + 2 * m ≤ length rows.now) × (2 * m ≤ length v.now) × (i + 8 ≤ m) }
-    ensures { (result % 3 ≡ sum 64 (from (8 * i) (trit_term m (drop at rows.now) v.now)) % 3) × (result < 2 ^ 35) }
+// Stays three parameters, a row, a vector and `m`: a struct of them would be no plainer, since each function that makes one has them, and asks the
+// same of them.
+// What columns 8i to 8i + 63 of a row give, modulo 3, its remainder not taken yet.
+fn row_word(row: &[u8], v: &[u8], m: usize, i: usize) -> u64
+    requires { (2 * m ≤ length row.now) × (2 * m ≤ length v.now) × (i + 8 ≤ m) }
+    ensures { (result % 3 ≡ sum 64 (from (8 * i) (trit_term m row.now v.now)) % 3) × (result < 2 ^ 35) }
 {
-    lanes::weight(lanes::multiply(
-        word(rows, at + i),
-        word(rows, at + m + i),
-        word(v, i),
-        word(v, m + i),
-    ))
+    lanes::weight(lanes::multiply(word(row, i), word(row, m + i), word(v, i), word(v, m + i)))
 }
 
-// What all whole words of the row at byte `at` give: weights are added up, and the remainder is taken once. A word adds less than 2 ^ 35.
-fn row_words(rows: &[u8], v: &[u8], m: usize, at: usize) -> u64
-    requires { (at + 2 * m ≤ length rows.now) × (2 * m ≤ length v.now) × (m < 2 ^ 31) }
-    ensures { result ≡ sum (8 * (m / 8 * 8)) (trit_term m (drop at rows.now) v.now) % 3 }
+// What all whole words of a row give: weights are added up, and the remainder is taken once. A word adds less than 2 ^ 35.
+fn row_words(row: &[u8], v: &[u8], m: usize) -> u64
+    requires { (2 * m ≤ length row.now) × (2 * m ≤ length v.now) × (m < 2 ^ 31) }
+    ensures { result ≡ sum (8 * (m / 8 * 8)) (trit_term m row.now v.now) % 3 }
 {
     let mut acc: u64 = 0;
-    let mut i: usize = 0;
-    while i + 8 <= m {
-        acc += row_word(rows, v, m, at, i);
-        i += 8;
+    for i in 0..m / 8 {
+        acc += row_word(row, v, m, 8 * i);
     }
     acc % 3
 }
 
-// The row at byte `at` times a vector whose planes have `m` bytes, modulo 3: digit by digit after the last whole word.
-fn row_digit(rows: &[u8], v: &[u8], m: usize, at: usize) -> u64
-    requires { (at + 2 * m ≤ length rows.now) × (2 * m ≤ length v.now) × (m < 2 ^ 31) }
-    ensures { result ≡ row_product m (drop at rows.now) v.now }
+// A row times a vector whose planes have `m` bytes, modulo 3: digit by digit after the last whole word.
+fn row_digit(row: &[u8], v: &[u8], m: usize) -> u64
+    requires { (2 * m ≤ length row.now) × (2 * m ≤ length v.now) × (m < 2 ^ 31) }
+    ensures { result ≡ row_product m row.now v.now }
 {
-    let d = row_words(rows, v, m, at);
+    let d = row_words(row, v, m);
     if m % 8 == 0 {
         return d;
     }
-    bytes::wide(digits::row_product(bytes::skip(rows, at), v, m, m / 8 * 8, d as u8))
+    u64::from(digits::row_product(row, v, m, m / 8 * 8, d as u8))
 }
 
-// The `t` rows from byte `at` on times a vector, last row first. `all` has the digits' low bits plus twice their high bits, so that only
-// the high bits are taken apart in the loop.
-fn some_rows(rows: &[u8], v: &[u8], m: usize, at: usize, t: usize) -> Planes
-    requires { (t ≤ 8) × (at + 2 * m * t ≤ length rows.now) × (2 * m ≤ length v.now) × (m < 2 ^ 31) }
-    ensures { PlaneBits 8 (below t (row_digit m (drop at rows.now) v.now)) 0 result.low result.high }
+// The first `t` rows times a vector, last row first. `all` has the digits' low bits plus twice their high bits, so that only the high bits are
+// taken apart in the loop.
+fn some_rows(rows: &[u8], v: &[u8], m: usize, t: usize) -> Planes
+    requires { (t ≤ 8) × (2 * m * t ≤ length rows.now) × (2 * m ≤ length v.now) × (m < 2 ^ 31) }
+    ensures { PlaneBits 8 (below t (row_digit m rows.now v.now)) 0 result.low result.high }
 {
     let mut all: u64 = 0;
     let mut hi: u64 = 0;
-    let mut q = t;
-    let mut place = at + 2 * m * t;
-    while 0 < q {
-        q -= 1;
+    // `place` goes back by a row each time: multiplied anew, rows of 16 bytes take an eighth longer.
+    let mut place = 2 * m * t;
+    for _ in 0..t {
         place -= 2 * m;
-        let d = row_digit(rows, v, m, place);
+        let row = &rows[place..];
+        let d = row_digit(row, v, m);
         all = 2 * all + d;
         hi = 2 * hi + d / 2;
     }
@@ -82,41 +77,30 @@ fn whole_rows(rows: &[u8], v: &[u8], m: usize, t: usize, out: &mut [u8])
     let n = out.len() / 2;
     let mut at: usize = 0;
     let mut left = t;
-    let mut p: usize = 0;
-    while p < n {
-        let c = bytes::least(left, 8);
-        let e = some_rows(rows, v, m, at, c);
+    for p in 0..n {
+        let c = left.min(8);
+        let rest = &rows[at..];
+        let e = some_rows(rest, v, m, c);
         out[p] = e.low;
         out[n + p] = e.high;
         at += 2 * m * c;
         left -= c;
-        p += 1;
     }
 }
 
 // The first `t` rows of a matrix times a vector, modulo 3. The vector's two planes are the halves of `v`, and a row has as many bytes. The
 // sizes in use are written out, so that each gets code of its own.
+// Stays a match over literals: a const parameter would take a second function for all other sizes.
 pub fn matrix_product(rows: &[u8], v: &[u8], t: usize, out: &mut [u8])
     ensures { out.new ≡
         matrix_product (length out.old / 2) (length v.now / 2) t rows.now v.now
         ++ drop (2 * (length out.old / 2)) out.old }
 {
-    let m = v.len() / 2;
-    if m == 8 && t <= rows.len() / 16 {
-        whole_rows(rows, v, 8, t, out);
-        return;
+    match v.len() / 2 {
+        8 if t <= rows.len() / 16 => whole_rows(rows, v, 8, t, out),
+        32 if t <= rows.len() / 64 => whole_rows(rows, v, 32, t, out),
+        64 if t <= rows.len() / 128 => whole_rows(rows, v, 64, t, out),
+        m @ 1..0x8000_0000 if t <= rows.len() / (2 * m) => whole_rows(rows, v, m, t, out),
+        _ => partial::matrix_product(rows, v, t, out),
     }
-    if m == 32 && t <= rows.len() / 64 {
-        whole_rows(rows, v, 32, t, out);
-        return;
-    }
-    if m == 64 && t <= rows.len() / 128 {
-        whole_rows(rows, v, 64, t, out);
-        return;
-    }
-    if 0 < m && m < 0x8000_0000 && t <= rows.len() / (2 * m) {
-        whole_rows(rows, v, m, t, out);
-        return;
-    }
-    partial::matrix_product(rows, v, t, out);
 }

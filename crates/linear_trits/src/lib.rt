@@ -1,6 +1,5 @@
-// Trit vectors in two planes: what is made of a word or a byte of each plane, and of whole vectors byte by byte.
+// Trit vectors in two planes: what an operation makes of two strings, word by word or byte by byte.
 #![tactic(auto)]
 
-pub mod bitwise;
-pub mod bytes;
 pub mod operation;
+pub mod vectors;

@@ -7,19 +7,18 @@ ghost use Rattle.linear_model.specs.Internal.Planes.{trit_of, Narrow};
 
 use crate::words;
 
-// A word of each plane: 64 trits.
+// Some trits: their low bits and their high bits.
 #[derive(Clone, Copy)]
-pub struct Trits {
-    pub low: u64,
-    pub high: u64,
+pub struct TwoPlanes<W> {
+    pub low: W,
+    pub high: W,
 }
 
+// A word of each plane: 64 trits.
+pub type Trits = TwoPlanes<u64>;
+
 // A byte of each plane: eight trits.
-#[derive(Clone, Copy)]
-pub struct Planes {
-    pub low: u8,
-    pub high: u8,
-}
+pub type Planes = TwoPlanes<u8>;
 
 // The trits of planes `x` and `u`; a place with both bits set counts as 0.
 pub fn fit(x: u64, u: u64) -> Trits

@@ -1,11 +1,13 @@
 // The layout of each set's matrix file.
-ghost use Rattle.std.specs.Prelude.{◌≡◌};
-ghost use Rattle.numbers.specs.Sets.{counted};
+ghost use Rattle.std.specs.Prelude.{◌≡◌, true, false, MatchResult};
+ghost use Rattle.numbers.specs.Sets.{is_set, counted};
+ghost use Rattle.numbers.specs.declared.refusal.Refusal.TheVariants.{NoSet};
 ghost use Rattle.matrix_model.specs.File.{layout_of};
 ghost use Rattle.matrix_blocks.specs.Layouts.{layout_in};
 
 use matrix_blocks::layouts::Layout;
 use matrix_model::sizes::LETTER;
+use numbers::refusal::Refusal;
 use numbers::sizes::{
     BITS_1, BITS_2, BITS_3, BLOCK_ROWS_1, BLOCK_ROWS_2, BLOCK_ROWS_3, DIGITS_1, DIGITS_2, DIGITS_3,
 };
@@ -42,5 +44,16 @@ pub fn layout_of(set: u32) -> Layout
         2 => SET_2,
         3 => SET_3,
         _ => SET_1,
+    }
+}
+
+// The same, but a number that is none is refused.
+pub fn named_layout(set: u32) -> Result<Layout, Refusal>
+    ensures { MatchResult result (λ layout. (is_set set ≡ true) × (layout_in layout ≡ layout_of set))
+        (λ refusal. (refusal ≡ NoSet) × (is_set set ≡ false)) }
+{
+    match set {
+        1..=3 => Ok(layout_of(set)),
+        _ => Err(Refusal::NoSet),
     }
 }

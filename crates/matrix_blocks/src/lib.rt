@@ -4,4 +4,5 @@
 pub mod blocks;
 pub mod counts;
 pub mod faults;
+pub mod files;
 pub mod layouts;

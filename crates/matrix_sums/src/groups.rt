@@ -2,7 +2,7 @@
 
 // Bytes of words added up in four lanes of 16 bits: `pairs` has those at places 0 and 1 of a word in its lowest lane, those at 2
 // and 3 in the next, and so on, and `odd` the second of each pair. `ahead` adds up what `pairs` was before each word.
-#[derive(Clone, Copy)]
+#[derive(Clone, Copy, Default)]
 pub struct Lanes {
     pub pairs: u64,
     pub odd: u64,

@@ -1,16 +1,15 @@
 // The check of a block: two sums modulo 255, by words.
-ghost use Rattle.std.specs.Prelude.{◌≡◌, [], ◌∷◌, ◌&&◌, ◌+◌, ◌^◌, ◌<◌, length, get_or};
+ghost use Rattle.std.specs.Prelude.{◌≡◌, [], ◌∷◌, ◌+◌, ◌^◌, ◌<◌, length, get_or};
 ghost use Rattle.matrix_model.specs.Block.{block_bytes, checked_bytes, check, check_holds};
 ghost use Rattle.matrix_model.specs.Internal.Lanes.{group_bytes, Weighted};
 ghost use Rattle.matrix_sums.specs.Internal.Lanes.{AddedTo, LanesOf, TotalsOf};
 
 use crate::groups::{Columns, Lanes, Sides, Totals};
-use linear_words::bytes::wide;
 use linear_words::words::{folded, word_at};
 use matrix_model::sizes::{BLOCK_BYTES, FIRST_SUM, SECOND_SUM};
 
 // The check of a block: two sums modulo 255.
-#[derive(Clone, Copy)]
+#[derive(Clone, Copy, PartialEq, Eq)]
 pub struct Check {
     pub first: u8,
     pub second: u8,
@@ -21,12 +20,6 @@ const GROUP_BYTES: usize = 256;
 
 // Every second byte of a word.
 const EVEN_BYTES: u64 = 0x00ff_00ff_00ff_00ff;
-
-pub fn both(a: bool, b: bool) -> bool
-    ensures { result ≡ (a && b) }
-{
-    a && b
-}
 
 // The lanes of `x`, counted 8, 6, 4 and 2 times.
 fn weighted(x: u64) -> u64
@@ -54,24 +47,15 @@ fn in_columns(part: &[u8]) -> Columns
     requires { length part.now ≡ group_bytes }
     ensures { LanesOf part.now result }
 {
-    let mut left = Lanes {
-        pairs: 0,
-        odd: 0,
-        ahead: 0,
-    };
-    let mut right = Lanes {
-        pairs: 0,
-        odd: 0,
-        ahead: 0,
-    };
-    let mut i: usize = 0;
-    while i < GROUP_BYTES {
+    let mut left = Lanes::default();
+    let mut right = Lanes::default();
+    for k in 0..GROUP_BYTES / 32 {
+        let i = 32 * k;
         left = add_word(left, word_at(part, i));
         right = add_word(right, word_at(part, i + 8));
         let next = i + 16;
         left = add_word(left, word_at(part, next));
         right = add_word(right, word_at(part, next + 8));
-        i = next + 16;
     }
     Columns {
         pairs: Sides {
@@ -135,8 +119,8 @@ pub fn sums(block: &[u8]) -> Check
     let a = group_sums(group(&block[0..GROUP_BYTES]));
     let b = group_sums(group(&block[GROUP_BYTES..BLOCK_BYTES]));
     let end = stored(block);
-    let p = wide(end.first);
-    let q = wide(end.second);
+    let p = u64::from(end.first);
+    let q = u64::from(end.second);
     let first = a.first + b.first + 254 * (p + q);
     let second = a.second + 256 * a.first + b.second + 253 * first + 253 * p + 254 * q;
     Check {
@@ -150,7 +134,5 @@ pub fn check_holds(block: &[u8]) -> bool
     requires { length block.now ≡ block_bytes }
     ensures { result ≡ check_holds block.now }
 {
-    let right = sums(block);
-    let found = stored(block);
-    both(found.first == right.first, found.second == right.second)
+    stored(block) == sums(block)
 }

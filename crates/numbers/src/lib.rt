@@ -1,5 +1,6 @@
-// The table's numbers, which one a call returns, and what it leaves then; the sizes of the sets. Definitions, laws and constants; no function.
+// The table's refusals and their numbers, which one a call returns, and what it leaves then; the sizes of the sets. Definitions and laws; its
+// functions say the number of a refusal and of an answer.
 #![tactic(auto)]
 
+pub mod refusal;
 pub mod sizes;
-pub mod table;

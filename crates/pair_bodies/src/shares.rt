@@ -3,7 +3,7 @@ ghost use Rattle.std.specs.Prelude.{◌≡◌, ◌*◌, ◌≤◌, length};
 ghost use Rattle.linear_model.specs.Bits.{add_bits};
 ghost use Rattle.numbers.specs.Number.{at_front};
 ghost use Rattle.pair_frames.specs.Headers.{parameters_in};
-ghost use Rattle.pair_frames.specs.Schemes.{scheme_in, Fits};
+ghost use Rattle.pair_frames.specs.Schemes.{scheme_in};
 ghost use Rattle.pair_model.specs.Scheme.{files};
 ghost use Rattle.pair_model.specs.Frame.{share_kind, frame, frame_bytes};
 ghost use Rattle.pair_model.specs.Unit.{share_of};
@@ -26,7 +26,7 @@ pub fn write_share_frame(
     file: &[u8],
     out: &mut [u8],
 )
-    requires { Fits sizes × (length file.now ≡ (scheme_in sizes).rows_reading.bytes) × (frame_bytes (scheme_in sizes) share_kind ≤ length out.old) }
+    requires { (length file.now ≡ (scheme_in sizes).rows_reading.bytes) × (frame_bytes (scheme_in sizes) share_kind ≤ length out.old) }
     ensures { out.new ≡
         at_front
         (frame share_kind (parameters_in parameters)
@@ -42,7 +42,6 @@ pub fn write_share_frame(
     let mut inner = [0u8; TRITS_ROOM];
     add_bits(own_mask, other_mask, &mut w[..m]);
     inner_share(parameters.side, &w[..m], r, &mut inner[..planes]);
-    let head = header_bytes(SHARE, parameters);
-    put(&head, out, 0);
+    put(&header_bytes(SHARE, parameters), out, 0);
     write_code(sizes, file, &inner[..planes], &mut out[HEADER_BYTES..end]);
 }

@@ -1,4 +1,4 @@
-// The number of a beginning and of a step, and the stages of a unit.
+// What a beginning and a step may be refused for, and the stages of a unit.
 #![tactic(auto)]
 
 pub mod begin;

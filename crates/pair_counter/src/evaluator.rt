@@ -3,22 +3,22 @@ ghost use Rattle.std.specs.Prelude.{◌≡◌, ◌*◌, length, take};
 ghost use Rattle.linear_model.specs.Trits.{bit_trits};
 ghost use Rattle.linear_model.specs.Products.{circulant_product};
 ghost use Rattle.numbers.specs.Number.{output};
-ghost use Rattle.pair_frames.specs.Schemes.{scheme_in, Fits};
+ghost use Rattle.numbers.specs.Refusals.{answer_number};
+ghost use Rattle.pair_frames.specs.Schemes.{scheme_in};
 ghost use Rattle.pair_model.specs.Scheme.{files};
 ghost use Rattle.numbers.specs.Sets.{number_in};
 ghost use Rattle.pair_model.specs.Base.{scheme_of};
 ghost use Rattle.pair_model.specs.Evaluator.{code, evaluate_conditions, evaluate_number};
 
 use linear::products::circulant_product;
-use numbers::table::{DONE, NO_SET, WRONG_LENGTH};
+use numbers::refusal::Refusal;
 use pair_frames::frame::code_bytes;
-use pair_frames::sets::{is_set, sizes_of};
+use pair_frames::sets::named_sizes;
 use pair_frames::sizes::{Sizes, TRITS_ROOM};
-use pair_matrix::rows::{file_number, write_code};
+use pair_matrix::rows::{check_file, write_code};
 
 // The inner vector of a key and a label, as trits: its bits are the low plane.
 fn inner_vector(sizes: Sizes, key: &[u8], label: &[u8]) -> [u8; TRITS_ROOM]
-    requires { Fits sizes }
     ensures { take (2 * sizes.inner_bytes) result ≡
         bit_trits sizes.inner_bytes (circulant_product sizes.inner_bytes key.now label.now) }
 {
@@ -28,39 +28,41 @@ fn inner_vector(sizes: Sizes, key: &[u8], label: &[u8]) -> [u8; TRITS_ROOM]
 }
 
 // The code of a key and a label: B × (K × label modulo 2) modulo 3.
-fn evaluate_sized(sizes: Sizes, key: &[u8], label: &[u8], file: &[u8], out: &mut [u8]) -> u32
-    requires { Fits sizes }
-    ensures result { result ≡ evaluate_number (scheme_in sizes) key.now label.now (files file.now) (length out.old) }
+fn evaluate_sized(
+    sizes: Sizes,
+    key: &[u8],
+    label: &[u8],
+    file: &[u8],
+    out: &mut [u8],
+) -> Result<(), Refusal>
+    ensures result { answer_number result ≡ evaluate_number (scheme_in sizes) key.now label.now (files file.now) (length out.old) }
     ensures output { out.new ≡
-        output result (code (scheme_in sizes) key.now label.now (files file.now)) out.old }
+        output (answer_number result) (code (scheme_in sizes) key.now label.now (files file.now)) out.old }
 {
     let planes = 2 * sizes.inner_bytes;
-    if key.len() != sizes.key_bytes {
-        return WRONG_LENGTH;
+    if key.len() != sizes.key_bytes
+        || label.len() != sizes.key_bytes
+        || out.len() < code_bytes(sizes)
+    {
+        return Err(Refusal::WrongLength);
     }
-    if label.len() != sizes.key_bytes {
-        return WRONG_LENGTH;
-    }
-    if out.len() < code_bytes(sizes) {
-        return WRONG_LENGTH;
-    }
-    let number = file_number(sizes, file);
-    if number != DONE {
-        return number;
-    }
+    check_file(sizes, file)?;
     let inner = inner_vector(sizes, key, label);
     write_code(sizes, file, &inner[..planes], out);
-    DONE
+    Ok(())
 }
 
 // The same in a set.
-pub fn evaluate(set: u32, key: &[u8], label: &[u8], file: &[u8], out: &mut [u8]) -> u32
-    ensures result { result ≡ number_in set (evaluate_conditions (scheme_of set) key.now label.now (files file.now) (length out.old)) }
+pub fn evaluate(
+    set: u32,
+    key: &[u8],
+    label: &[u8],
+    file: &[u8],
+    out: &mut [u8],
+) -> Result<(), Refusal>
+    ensures result { answer_number result ≡ number_in set (evaluate_conditions (scheme_of set) key.now label.now (files file.now) (length out.old)) }
     ensures output { out.new ≡
-        output result (code (scheme_of set) key.now label.now (files file.now)) out.old }
+        output (answer_number result) (code (scheme_of set) key.now label.now (files file.now)) out.old }
 {
-    if is_set(set) {
-        return evaluate_sized(sizes_of(set), key, label, file, out);
-    }
-    NO_SET
+    evaluate_sized(named_sizes(set)?, key, label, file, out)
 }

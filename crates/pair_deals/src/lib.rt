@@ -2,3 +2,4 @@
 #![tactic(auto)]
 
 pub mod frames;
+pub mod tape;

@@ -1,3 +1,4 @@
 pub mod Bases
 pub mod Fronts
 pub mod Parts
+pub mod Refusals

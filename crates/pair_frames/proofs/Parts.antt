@@ -13,7 +13,7 @@ use Rattle.pair_model.specs.Scheme.{layout_bytes, field, concat}
 use Rattle.pair_model.specs.Frame.{Parameters, header, header_bytes}
 use Rattle.pair_model.specs.StateSlice.{in_room}
 use Rattle.pair_model.proofs.Internal.Fields.{field_at}
-use Rattle.pair_model.proofs.Internal.FieldCopies.{FieldsCopied, fields_more, fields_front}
+use Rattle.pair_model.proofs.Internal.FieldCopies.{FieldsCopied, fields_none, fields_more, fields_front}
 use Rattle.pair_frames.proofs.Fronts.{zeros_behind}
 
 -- what is copied to the front of a room of zeros is in that room
@@ -27,6 +27,11 @@ header_long kind t = refl
 
 pub headed : (h : List ℕ) (kind : ℕ) (t : Parameters) → h ≡ header kind t → length h ≡ header_bytes
 headed h kind t e = ap length e ∙ header_long kind t
+
+-- one that is copied to the front of d
+pub header-first : {d : List ℕ} (h o : List ℕ) (kind : ℕ) (t : Parameters) → h ≡ header kind t → o ≡ pasted 0 h d → header_bytes ≤ length d → FieldsCopied header_bytes (header kind t ∷ []) d o
+header-first {d} h o kind t e p room =
+    fields_more (fields_none {d = d}) header_bytes (header kind t) o (header_long kind t) room (p ∙ ap (λ (x : List ℕ). pasted 0 x d) e)
 
 -- bytes k to j of a string
 pub part_long : (s : List ℕ) (k j : ℕ) → k ≤ j → j ≤ length s → length (take (j - k) (drop k s)) ≡ j - k

@@ -2,6 +2,7 @@
 use Rattle.pair_frames.specs.declared.header.Header.{Header as Enum}
 use Rattle.pair_frames.specs.declared.header.Header.TheVariants.{Fields, Refused}
 use Rattle.pair_frames.specs.declared.parameters.Parameters.{Parameters as Struct}
+use Rattle.numbers.specs.Refusals.{number_of}
 use Rattle.pair_model.specs.Frame.{Parameters, parameters}
 use Rattle.pair_model.specs.Header.{Header, fields, refusal}
 
@@ -11,4 +12,4 @@ parameters_in p = parameters p.side p.session p.line
 
 abbrev pub header_of : Enum → Header
 header_of (Fields kind side session line body) = fields kind side session line body
-header_of (Refused number) = refusal number
+header_of (Refused why) = refusal (number_of why)

@@ -1,2 +1,3 @@
 pub mod Headers
+pub mod Numbers
 pub mod Schemes

@@ -6,7 +6,7 @@ ghost use Rattle.pair_model.specs.Tape.{deal_layout};
 ghost use Rattle.pair_model.specs.Frame.{deal_kind, open_kind, frame, frame_bytes, body_of};
 ghost use Rattle.pair_model.specs.StateSlice.{string_room, trits_room, in_room};
 ghost use Rattle.pair_frames.specs.Headers.{parameters_in};
-ghost use Rattle.pair_frames.specs.Schemes.{scheme_in, Fits};
+ghost use Rattle.pair_frames.specs.Schemes.{scheme_in};
 
 use crate::copies::put_part;
 use crate::frame::{OPEN, header_bytes};
@@ -26,7 +26,7 @@ pub struct Deal {
 
 // The deal in `s` from `at` on.
 pub fn read_deal(sizes: Sizes, s: &[u8], at: usize) -> Deal
-    requires { Fits sizes × (at + layout_bytes (deal_layout (scheme_in sizes)) ≤ length s.now) }
+    requires { at + layout_bytes (deal_layout (scheme_in sizes)) ≤ length s.now }
     ensures key_mask { result.key_mask ≡ in_room string_room (field (deal_layout (scheme_in sizes)) 0 (drop at s.now)) }
     ensures label_mask { result.label_mask ≡ in_room string_room (field (deal_layout (scheme_in sizes)) 1 (drop at s.now)) }
     ensures z { result.z ≡ in_room string_room (field (deal_layout (scheme_in sizes)) 2 (drop at s.now)) }
@@ -43,16 +43,16 @@ pub fn read_deal(sizes: Sizes, s: &[u8], at: usize) -> Deal
     put_part(s, at + 2 * n, m, &mut z, 0);
     put_part(s, at + 2 * n + m, 2 * m, &mut r, 0);
     Deal {
-        key_mask: key_mask,
-        label_mask: label_mask,
-        z: z,
-        r: r,
+        key_mask,
+        label_mask,
+        z,
+        r,
     }
 }
 
 // The r of a deal frame.
 pub fn r_of_deal(sizes: Sizes, f: &[u8]) -> &[u8]
-    requires { Fits sizes × (length f.now ≡ frame_bytes (scheme_in sizes) deal_kind) }
+    requires { length f.now ≡ frame_bytes (scheme_in sizes) deal_kind }
     ensures { result.now ≡ field (deal_layout (scheme_in sizes)) 3 (body_of f.now) }
 {
     let at = HEADER_BYTES + 2 * sizes.key_bytes + sizes.inner_bytes;
@@ -69,7 +69,7 @@ pub fn write_open_frame(
     label_mask: &[u8],
     out: &mut [u8],
 )
-    requires { Fits sizes × (frame_bytes (scheme_in sizes) open_kind ≤ length out.old) }
+    requires { frame_bytes (scheme_in sizes) open_kind ≤ length out.old }
     ensures { out.new ≡
         frame open_kind (parameters_in parameters)
         (concat
@@ -78,8 +78,7 @@ pub fn write_open_frame(
         ∷ []))
         ++ drop (frame_bytes (scheme_in sizes) open_kind) out.old }
 {
-    let head = header_bytes(OPEN, parameters);
-    put(&head, out, 0);
+    put(&header_bytes(OPEN, parameters), out, 0);
     let label_at = HEADER_BYTES + sizes.key_bytes;
     let end = label_at + sizes.key_bytes;
     add_bits(key, key_mask, &mut out[HEADER_BYTES..label_at]);

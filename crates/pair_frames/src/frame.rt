@@ -1,19 +1,20 @@
 // Frames by their headers: what a frame is read to, and the bytes of a frame that is written.
 ghost use Rattle.std.specs.Prelude.{◌≡◌, ◌++◌, ◌+◌, ◌≤◌, length, drop};
 ghost use Rattle.numbers.specs.Number.{first};
+ghost use Rattle.numbers.specs.Refusals.{answer_number};
 ghost use Rattle.pair_model.specs.Frame.{header, header_bytes, frame, session_of, line_of, carried_parameters, code_bytes, frame_bytes};
 ghost use Rattle.pair_model.specs.Header.{read_header, header_number, line_conditions};
 ghost use Rattle.pair_frames.specs.Headers.{parameters_in, header_of};
-ghost use Rattle.pair_frames.specs.Schemes.{scheme_in, Fits};
+ghost use Rattle.pair_frames.specs.Schemes.{scheme_in};
 
 use crate::header::Header;
 use crate::parameters::Parameters;
 use crate::sizes::{HEADER_BYTES, Sizes};
-use linear_words::bytes::wide;
 use linear_words::copies::put;
-use numbers::table::{DONE, FRAME_LENGTH, NO_KIND, OTHER_LINE};
+use numbers::refusal::Refusal;
 
 // The kinds of frames.
+// Stays numbers, an enum is no plainer: a kind is the first byte of a frame that came, any byte, and is compared with bounds and a stage.
 pub const DEAL: u8 = 1;
 
 pub const OPEN: u8 = 2;
@@ -24,15 +25,13 @@ pub const SHARE: u8 = 4;
 
 // The bytes of a code.
 pub fn code_bytes(sizes: Sizes) -> usize
-    requires { Fits sizes }
     ensures { result ≡ code_bytes (scheme_in sizes) }
 {
-    2 * ((sizes.digits + 7) / 8)
+    2 * sizes.digits.div_ceil(8)
 }
 
 // The whole length of a frame, by its kind.
 pub fn frame_bytes(sizes: Sizes, kind: u8) -> usize
-    requires { Fits sizes }
     ensures { result ≡ frame_bytes (scheme_in sizes) kind }
 {
     match kind {
@@ -49,7 +48,7 @@ pub fn session_of(f: &[u8]) -> u32
     requires { header_bytes ≤ length f.now }
     ensures { result ≡ session_of f.now }
 {
-    (wide(f[2]) + 256 * wide(f[3]) + 65536 * wide(f[4]) + 16777216 * wide(f[5])) as u32
+    u32::from_le_bytes([f[2], f[3], f[4], f[5]])
 }
 
 // The line in a header.
@@ -74,24 +73,23 @@ pub fn parameters_of(f: &[u8]) -> Parameters
 
 // Reads a frame whose kind may be `lowest` to `highest`.
 pub fn read_header(sizes: Sizes, f: &[u8], lowest: u8, highest: u8) -> Header
-    requires { Fits sizes }
     ensures { header_of result ≡ read_header (scheme_in sizes) lowest highest f.now }
 {
     if f.len() < HEADER_BYTES {
-        return Header::Refused(NO_KIND);
+        return Header::Refused(Refusal::NoKind);
     }
     let kind = f[0];
     if kind < lowest {
-        return Header::Refused(NO_KIND);
+        return Header::Refused(Refusal::NoKind);
     }
     if highest < kind {
-        return Header::Refused(NO_KIND);
+        return Header::Refused(Refusal::NoKind);
     }
     if f.len() != frame_bytes(sizes, kind) {
-        return Header::Refused(FRAME_LENGTH);
+        return Header::Refused(Refusal::FrameLength);
     }
     Header::Fields {
-        kind: kind,
+        kind,
         side: f[1],
         session: session_of(f),
         line: line_of(f),
@@ -99,44 +97,34 @@ pub fn read_header(sizes: Sizes, f: &[u8], lowest: u8, highest: u8) -> Header
     }
 }
 
-// The number of a header that was read: its refusal, or 0.
-pub fn header_number(h: Header) -> u32
-    ensures { result ≡ header_number (header_of h) }
+// A header that was read, by its refusal.
+pub fn check_header(h: Header) -> Result<(), Refusal>
+    ensures { answer_number result ≡ header_number (header_of h) }
 {
     match h {
-        Header::Fields {
-            kind: _,
-            side: _,
-            session: _,
-            line: _,
-            body: _,
-        } => DONE,
-        Header::Refused(n) => n,
+        Header::Fields { .. } => Ok(()),
+        Header::Refused(why) => Err(why),
     }
 }
 
-// The number of a frame's line, where it must be `line`.
-pub fn line_number(line: u8, f: &[u8]) -> u32
+// A frame's line, which must be `line`.
+pub fn check_line(line: u8, f: &[u8]) -> Result<(), Refusal>
     requires { header_bytes ≤ length f.now }
-    ensures { result ≡ first (line_conditions line f.now) }
+    ensures { answer_number result ≡ first (line_conditions line f.now) }
 {
-    if line_of(f) == line { DONE } else { OTHER_LINE }
+    if line_of(f) == line {
+        Ok(())
+    } else {
+        Err(Refusal::OtherLine)
+    }
 }
 
 // The bytes of a header.
 pub fn header_bytes(kind: u8, parameters: Parameters) -> [u8; HEADER_BYTES]
     ensures { result ≡ header kind (parameters_in parameters) }
 {
-    let session = parameters.session;
-    [
-        kind,
-        parameters.side,
-        (session % 256) as u8,
-        (session / 256 % 256) as u8,
-        (session / 65536 % 256) as u8,
-        (session / 16777216 % 256) as u8,
-        parameters.line,
-    ]
+    let [s0, s1, s2, s3] = parameters.session.to_le_bytes();
+    [kind, parameters.side, s0, s1, s2, s3, parameters.line]
 }
 
 // Writes a frame to the front of `out`.
@@ -145,7 +133,6 @@ pub fn write_frame(kind: u8, parameters: Parameters, body: &[u8], out: &mut [u8]
     ensures { out.new ≡
         frame kind (parameters_in parameters) body.now ++ drop (header_bytes + length body.now) out.old }
 {
-    let head = header_bytes(kind, parameters);
-    put(&head, out, 0);
+    put(&header_bytes(kind, parameters), out, 0);
     put(body, out, HEADER_BYTES);
 }

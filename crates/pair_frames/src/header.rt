@@ -1,4 +1,6 @@
 // What a frame is read to: its kind, side, session, line and body length, or its refusal.
+use numbers::refusal::Refusal;
+
 #[derive(Clone, Copy)]
 pub enum Header {
     Fields {
@@ -8,5 +10,5 @@ pub enum Header {
         line: u8,
         body: usize,
     },
-    Refused(u32),
+    Refused(Refusal),
 }

@@ -1,5 +1,7 @@
 // All lengths and places, in this one place: those of the three sets, what every set has alike, and what follows from set 1's, which is
 // document 01's. The matrix file's are those of its layer.
+ghost use Rattle.pair_frames.specs.Numbers.{Fits};
+
 pub use matrix_model::sizes::{CODE_BYTES, FILE_BYTES};
 use numbers::sizes::{
     BITS_1, BITS_2, BITS_3, BLOCK_ROWS_1, BLOCK_ROWS_2, BLOCK_ROWS_3, DIGITS_1, DIGITS_2, DIGITS_3,
@@ -14,6 +16,8 @@ pub struct Sizes {
     pub digits: usize,
     pub set: u8,
     pub block_rows: usize,
+    // Strings and rows of these sizes have room, and the product is circulant.
+    pub ghost fits: { Fits (record { key_bytes = key_bytes; inner_bytes = inner_bytes; digits = digits; set = set; block_rows = block_rows }) },
 }
 
 // The sizes of each set.

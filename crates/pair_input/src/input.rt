@@ -1,39 +1,34 @@
-// The lowest number over all of the program's input: its length, the matrix file and the tape.
+// What the program's input may be refused for, the lowest number over all of it: its length, the matrix file and the tape.
 ghost use Rattle.std.specs.Prelude.{◌≡◌, cond, eqb};
+ghost use Rattle.numbers.specs.Refusals.{answer_number};
 ghost use Rattle.pair_model.specs.WholeRun.{run_number};
 
 use linear::trits::trits_fit;
 use matrix::file::matrix_check;
-use numbers::table::{BLOCK_CHECK, BLOCK_LAYOUT, UNFIT_TRIT, WRONG_LENGTH};
+use numbers::refusal::Refusal;
 use pair_frames::sizes::{CODE_BYTES, INNER_TRITS, INPUT_BYTES, INPUT_FILE, INPUT_TAPE, TAPE_R};
 
-// The number of an input whose tape has a trit with both bits set, of its file's.
-fn with_unfit_tape(number: u32) -> u32
-    ensures { result ≡ cond (eqb number 8) 8 (cond (eqb number 9) 9 10) }
+// An input whose tape has a trit with both bits set, by its file.
+fn with_unfit_tape(of_file: Result<(), Refusal>) -> Result<(), Refusal>
+    ensures { answer_number result ≡ cond (eqb (answer_number of_file) 8) 8 (cond (eqb (answer_number of_file) 9) 9 10) }
 {
-    if number == BLOCK_CHECK {
-        return BLOCK_CHECK;
-    }
-    if number == BLOCK_LAYOUT {
-        BLOCK_LAYOUT
-    } else {
-        UNFIT_TRIT
-    }
+    Err(match of_file {
+        Err(Refusal::BlockCheck) => Refusal::BlockCheck,
+        Err(Refusal::BlockLayout) => Refusal::BlockLayout,
+        _ => Refusal::UnfitTrit,
+    })
 }
 
-// The lowest number over all of the input.
-pub fn run_number(input: &[u8], room: usize) -> u32
-    ensures { result ≡ run_number input.now room }
+// All of the input.
+pub fn check_run(input: &[u8], room: usize) -> Result<(), Refusal>
+    ensures { answer_number result ≡ run_number input.now room }
 {
-    if input.len() != INPUT_BYTES {
-        return WRONG_LENGTH;
+    if input.len() != INPUT_BYTES || room < CODE_BYTES {
+        return Err(Refusal::WrongLength);
     }
-    if room < CODE_BYTES {
-        return WRONG_LENGTH;
-    }
-    let number = matrix_check(1, &input[INPUT_FILE..INPUT_BYTES]);
+    let of_file = matrix_check(1, &input[INPUT_FILE..INPUT_BYTES]);
     if trits_fit(&input[INPUT_TAPE + TAPE_R..INPUT_FILE], INNER_TRITS) {
-        return number;
+        return of_file;
     }
-    with_unfit_tape(number)
+    with_unfit_tape(of_file)
 }

@@ -1,4 +1,4 @@
-// The number of the program's input.
+// What the program's input may be refused for.
 #![tactic(auto)]
 
 pub mod input;

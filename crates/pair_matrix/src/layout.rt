@@ -1,7 +1,7 @@
 // The layout of the matrix file.
 ghost use Rattle.std.specs.Prelude.{◌≡◌};
 ghost use Rattle.matrix_blocks.specs.Layouts.{layout_in};
-ghost use Rattle.pair_frames.specs.Schemes.{file_layout, Fits};
+ghost use Rattle.pair_frames.specs.Schemes.{file_layout};
 
 use matrix_blocks::layouts::Layout;
 use matrix_model::sizes::LETTER;
@@ -9,7 +9,6 @@ use pair_frames::sizes::Sizes;
 
 // A row is as long as an inner trit vector, and each digit has one.
 pub fn file_layout(sizes: Sizes) -> Layout
-    requires { Fits sizes }
     ensures { layout_in result ≡ file_layout sizes }
 {
     Layout {

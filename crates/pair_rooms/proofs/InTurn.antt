@@ -8,7 +8,7 @@ use lib.Seq.{take_at, drop_at, drop-append-add, drop-drop, take-add, take-take, 
 use Rattle.linear_model.specs.Bits.{zeros}
 use Rattle.linear_model.proofs.Strings.{length-zeros}
 use Rattle.pair_frames.specs.declared.sizes.Sizes.{Sizes}
-use Rattle.pair_frames.specs.Schemes.{scheme_in, Fits}
+use Rattle.pair_frames.specs.Schemes.{scheme_in}
 use Rattle.pair_model.specs.Scheme.{concat}
 use Rattle.pair_model.specs.Frame.{Parameters, header}
 use Rattle.pair_model.specs.StateSlice.{in_room, rooms, state_header, state_header_bytes, state_bytes, room_place, in_front}
@@ -112,5 +112,5 @@ unfolding state_header header
 header-first set t stage d o l e = fields_more (fields_none {d = d}) state_header_bytes (state_header set t stage) o refl (omega arith) e
 
 -- strings of sizes that fit have room
-pub has_room_in : (z : Sizes) → Fits z → HasRoom (scheme_in z)
-has_room_in z h = record { key = h.key; inner = h.inner }
+pub has_room_in : (z : Sizes) → HasRoom (scheme_in z)
+has_room_in z = record { key = z.fits.key; inner = z.fits.inner }

@@ -1,14 +1,13 @@
 // The rooms of a state that stay, and those of a deal.
 ghost use Rattle.std.specs.Prelude.{◌≡◌, [], ◌∷◌, ◌++◌, ◌*◌, length, take, drop};
 ghost use Rattle.pair_frames.specs.Headers.{parameters_in};
-ghost use Rattle.pair_frames.specs.Schemes.{scheme_in, Fits};
+ghost use Rattle.pair_frames.specs.Schemes.{scheme_in};
 ghost use Rattle.pair_model.specs.Scheme.{field, concat};
 ghost use Rattle.pair_model.specs.Tape.{deal_layout};
 ghost use Rattle.pair_model.specs.Frame.{deal_kind, frame_bytes, body_of};
 ghost use Rattle.pair_model.specs.StateSlice.{string_room, trits_room, in_room, room_place, in_front, state_header, state_header_bytes, state_bytes};
 
 use crate::rooms::{keep_room, put_room};
-use linear_words::copies::put;
 use pair_frames::frame::header_bytes;
 use pair_frames::parameters::Parameters;
 use pair_frames::sizes::{
@@ -21,14 +20,13 @@ pub fn put_header(set: u8, parameters: Parameters, stage: u8, s: &mut [u8])
     requires { length s.old ≡ state_bytes }
     ensures { s.new ≡ state_header set (parameters_in parameters) stage ++ drop state_header_bytes s.old }
 {
-    let head = header_bytes(stage, parameters);
-    put(&head, s, 0);
+    s[..HEADER_BYTES].copy_from_slice(&header_bytes(stage, parameters));
     s[SET_AT] = set;
 }
 
 // Writes the header, and leaves both halves.
 pub fn keep_halves(sizes: Sizes, parameters: Parameters, stage: u8, s: &mut [u8])
-    requires { Fits sizes × (length s.old ≡ state_bytes) }
+    requires { length s.old ≡ state_bytes }
     ensures { s.new ≡
         concat
         (state_header sizes.set (parameters_in parameters) stage ∷ in_room string_room (in_front s.old 0 sizes.key_bytes)
@@ -43,7 +41,7 @@ pub fn keep_halves(sizes: Sizes, parameters: Parameters, stage: u8, s: &mut [u8]
 
 // Leaves the deal.
 pub fn keep_deal(sizes: Sizes, s: &mut [u8])
-    requires { Fits sizes × (length s.old ≡ state_bytes) }
+    requires { length s.old ≡ state_bytes }
     ensures { s.new ≡
         take (room_place 2) s.old
         ++ concat
@@ -61,7 +59,7 @@ pub fn keep_deal(sizes: Sizes, s: &mut [u8])
 
 // Writes the deal in a deal frame.
 pub fn put_deal(sizes: Sizes, f: &[u8], s: &mut [u8])
-    requires { Fits sizes × (length f.now ≡ frame_bytes (scheme_in sizes) deal_kind) × (length s.old ≡ state_bytes) }
+    requires { (length f.now ≡ frame_bytes (scheme_in sizes) deal_kind) × (length s.old ≡ state_bytes) }
     ensures { s.new ≡
         take (room_place 2) s.old
         ++ concat

@@ -7,7 +7,7 @@ use native.Mathlib.Omega.{arith}
 use borrow.Author.Tests.{lt-ltb, le-ltb}
 use lib.ListN.{length, take, drop, length-take, length-drop, length-append, drop_of_length-le, take-append-drop}
 use lib.Seq.{drop-drop, take_at, drop_at}
-use Rattle.numbers.specs.Number.{first, output, reported}
+use Rattle.numbers.specs.Number.{first, output}
 use Rattle.numbers.proofs.Outputs.{output-refused, output_whole}
 use Rattle.linear_model.specs.Trits.{pack_trits}
 use Rattle.linear_model.proofs.Vectors.{length-pack_trits}
@@ -33,9 +33,9 @@ module _ (S : Scheme) (s : List ℕ) (start : ℕ) where
     unfolding first sample_conditions
     sample_number_lem n r h e = e ∙ (λ i. source_number (ec i) (ew i) s start) ∙ rw (le-ltb n (tape_bytes S) h)
 
-    pub sample_next : (r v : ℕ) → v ≡ reported r (drawn c w s start).next → v ≡ reported r (next_pair S s start)
+    pub sample_next : (v : ℕ) → v ≡ (drawn c w s start).next → v ≡ next_pair S s start
     unfolding next_pair
-    sample_next r v e = e ∙ (λ i. reported r (drawn (ec i) (ew i) s start).next)
+    sample_next v e = e ∙ (λ i. (drawn (ec i) (ew i) s start).next)
 
     -- a refusal leaves the part that was lent, and so all
     pub sample_refused : (k r : ℕ) (d o : List ℕ) → r ≢ 0 → o ≡ output r (copied c s start) (take k d) → o ++ drop k d ≡ output r (sampled S s start) d

@@ -30,10 +30,8 @@ pub fn pack(trits: &[u8], m: usize, out: &mut [u8])
     requires { (8 * m ≤ length trits.now) × (2 * m ≤ length out.old) × ((j : ℕ) → get_or trits.now j 0 < 4) }
     ensures { out.new ≡ pack_trits m (trit_of trits.now) ++ drop (2 * m) out.old }
 {
-    let mut i: usize = 0;
-    while i < m {
+    for i in 0..m {
         out[i] = plane_byte(trits, 0, i);
         out[m + i] = plane_byte(trits, 1, i);
-        i += 1;
     }
 }

@@ -1,18 +1,20 @@
 // A unit's beginning in a slice, and states there that hold no secrets.
-ghost use Rattle.std.specs.Prelude.{◌≡◌, ◌++◌, length};
+ghost use Rattle.std.specs.Prelude.{◌≡◌, ◌++◌, length, OnOk, OnErr};
 ghost use Rattle.linear_model.specs.Bits.{zeros};
 ghost use Rattle.pair_frames.specs.Headers.{parameters_in};
-ghost use Rattle.pair_frames.specs.Schemes.{scheme_in, Fits};
+ghost use Rattle.pair_frames.specs.Schemes.{scheme_in};
+ghost use Rattle.numbers.specs.Refusals.{answer_number};
+ghost use Rattle.pair_model.specs.Base.{scheme_of};
 ghost use Rattle.pair_model.specs.Scheme.{layout_bytes};
 ghost use Rattle.pair_model.specs.Frame.{parameters};
-ghost use Rattle.pair_model.specs.Unit.{begun, idle, begin, unit_begin};
+ghost use Rattle.pair_model.specs.Unit.{begun, idle, unit_begin};
 ghost use Rattle.pair_model.specs.StateSlice.{rooms, state_header, state_bytes, encode_state};
 
-use numbers::table::{DONE, NO_SET};
-use pair_conditions::begin::begin_number;
+use numbers::refusal::Refusal;
+use pair_conditions::begin::check_begin;
 use pair_conditions::stages::{IDLE, WAITS_FOR_DEAL};
 use pair_frames::parameters::Parameters;
-use pair_frames::sets::{is_set, sizes_of};
+use pair_frames::sets::named_sizes;
 use pair_frames::sizes::{KEY_AT, KEY_MASK_AT, LABEL_AT, STATE_BYTES, STRING_ROOM, Sizes};
 use pair_rooms::keeping::put_header;
 use pair_rooms::rooms::{clear_between, put_room};
@@ -41,7 +43,7 @@ fn make_idle(s: &mut [u8])
 
 // Writes a state with these halves that waits for a deal.
 fn begin_in_place(sizes: Sizes, parameters: Parameters, key: &[u8], label: &[u8], s: &mut [u8])
-    requires { Fits sizes × (length s.old ≡ state_bytes) × (length key.now ≡ sizes.key_bytes)
+    requires { (length s.old ≡ state_bytes) × (length key.now ≡ sizes.key_bytes)
         × (length label.now ≡ sizes.key_bytes) }
     ensures { s.new ≡ encode_state (begun (scheme_in sizes) (parameters_in parameters) key.now label.now) }
 {
@@ -51,35 +53,33 @@ fn begin_in_place(sizes: Sizes, parameters: Parameters, key: &[u8], label: &[u8]
     clear_between(s, KEY_MASK_AT, STATE_BYTES);
 }
 
-// Begins a unit in a slice: the state with these halves, or the idle state.
-fn begin_sized(
-    sizes: Sizes,
+// Begins a unit of a named set in a slice, which stays as it was where that is refused.
+fn begin_named(
+    set: u32,
     side: u32,
     session: u32,
     line: u8,
     key: &[u8],
     label: &[u8],
     state: &mut [u8],
-) -> u32
-    requires { Fits sizes × (length state.old ≡ state_bytes) }
-    ensures result { result ≡ (begin (scheme_in sizes) (parameters side session line) key.now label.now).result }
-    ensures state { state.new ≡ encode_state (begin (scheme_in sizes) (parameters side session line) key.now label.now).next }
+) -> Result<(), Refusal>
+    requires { length state.old ≡ state_bytes }
+    ensures result { answer_number result ≡ (unit_begin set (parameters side session line) key.now label.now).result }
+    ensures begun { OnOk result (state.new ≡ encode_state (begun (scheme_of set) (parameters side session line) key.now label.now)) }
+    ensures refused { OnErr result (state.new ≡ state.old) }
 {
-    let number = begin_number(sizes, side, key, label);
-    if number != DONE {
-        make_idle(state);
-        return number;
-    }
+    let sizes = named_sizes(set)?;
+    check_begin(sizes.key_bytes, side, key, label)?;
     let parameters = Parameters {
-        side: (side % 256) as u8,
-        session: session,
-        line: line,
+        side: side as u8,
+        session,
+        line,
     };
     begin_in_place(sizes, parameters, key, label, state);
-    DONE
+    Ok(())
 }
 
-// The same of a named set.
+// The same, but that a refused beginning writes the idle state.
 pub fn begin_slice(
     set: u32,
     side: u32,
@@ -88,14 +88,14 @@ pub fn begin_slice(
     key: &[u8],
     label: &[u8],
     state: &mut [u8],
-) -> u32
+) -> Result<(), Refusal>
     requires { length state.old ≡ state_bytes }
-    ensures result { result ≡ (unit_begin set (parameters side session line) key.now label.now).result }
+    ensures result { answer_number result ≡ (unit_begin set (parameters side session line) key.now label.now).result }
     ensures state { state.new ≡ encode_state (unit_begin set (parameters side session line) key.now label.now).next }
 {
-    if is_set(set) {
-        return begin_sized(sizes_of(set), side, session, line, key, label, state);
+    let began = begin_named(set, side, session, line, key, label, state);
+    if began.is_err() {
+        make_idle(state);
     }
-    make_idle(state);
-    NO_SET
+    began
 }

@@ -3,14 +3,15 @@ use Rattle.std.specs.Prelude.{◌*◌, take}
 use Rattle.numbers.specs.Sets.{counted}
 use Rattle.pair_frames.specs.declared.sizes.Sizes.{Sizes}
 use Rattle.pair_frames.specs.Headers.{parameters_in}
-use Rattle.pair_frames.specs.Schemes.{set_sizes}
+use Rattle.pair_frames.specs.Numbers.{Numbers, set_sizes}
+use Rattle.pair_frames.specs.Schemes.{numbers_in}
 use Rattle.pair_model.specs.Unit.{State, state}
 use Rattle.pair_model.specs.StateSlice.{string_room, trits_room, in_room}
 use Rattle.pair_units.specs.declared.state.UnitState.{UnitState}
 
--- the state that a struct stands for at these sizes: the front of each room
-abbrev pub state_at : Sizes → UnitState → State
-state_at z u =
+-- the state that a struct stands for at sizes of these numbers: the front of each room
+abbrev pub state_by : Numbers → UnitState → State
+state_by z u =
     let n = z.key_bytes in
     let m = z.inner_bytes in
     state z.set (parameters_in u.parameters) u.stage
@@ -24,9 +25,13 @@ state_at z u =
       own_mask = take m u.own_mask;
     })
 
+-- at these sizes
+abbrev pub state_at : Sizes → UnitState → State
+state_at z u = state_by (numbers_in z) u
+
 -- the state that a struct stands for: of its set, where a number that is none counts as 1
 abbrev pub state_of : UnitState → State
-state_of u = state_at (set_sizes (counted u.set)) u
+state_of u = state_by (set_sizes (counted u.set)) u
 
 -- the struct that a state becomes: each string in its room
 abbrev pub unit_of : State → UnitState

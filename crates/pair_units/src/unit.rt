@@ -1,58 +1,55 @@
 // The step of a unit.
 ghost use Rattle.std.specs.Prelude.{◌≡◌, cond, eqb, length};
 ghost use Rattle.numbers.specs.Number.{at_front};
+ghost use Rattle.numbers.specs.Refusals.{answer_number};
 ghost use Rattle.pair_model.specs.Scheme.{files};
 ghost use Rattle.pair_model.specs.Base.{InEachSet};
 ghost use Rattle.pair_model.specs.Unit.{step, unit_step};
 ghost use Rattle.pair_model.specs.Run.{protocol};
 ghost use Rattle.pair_model.specs.Theorem.{Correctness, Privacy, ThreeFrames};
 ghost use Rattle.pair_model.specs.Evidence.{Evidence};
-ghost use Rattle.pair_frames.specs.Schemes.{scheme_in, Fits};
+ghost use Rattle.pair_frames.specs.Schemes.{scheme_in};
 ghost use Rattle.pair_units.specs.Units.{state_at, state_of, unit_of};
 
 use crate::padding::padded;
 use crate::state::UnitState;
-use crate::steps::advance;
-use numbers::table::DONE;
-use pair_conditions::conditions::step_number;
+use crate::steps::{Advanced, advance};
+use numbers::refusal::Refusal;
+use pair_conditions::conditions::check_step;
 use pair_frames::sets::sizes_of;
 use pair_frames::sizes::Sizes;
 
 // What a step returns, how much it wrote, and the next state.
 #[derive(Clone, Copy)]
 pub struct Stepped {
-    pub result: u32,
+    pub result: Result<(), Refusal>,
     pub written: usize,
     pub next: UnitState,
 }
 
-// One frame, at these sizes: the number, how much was written to `out`, and the next state. A refusal keeps every byte of the struct.
+// One frame, at these sizes: the answer, how much was written to `out`, and the next state. A refusal keeps every byte of the struct.
 fn step_unit(sizes: Sizes, u: UnitState, f: &[u8], file: &[u8], out: &mut [u8]) -> Stepped
-    requires { Fits sizes }
-    ensures result { result.result ≡ (step (scheme_in sizes) (state_at sizes u) f.now (files file.now) (length out.old)).result }
+    ensures result { answer_number result.result ≡ (step (scheme_in sizes) (state_at sizes u) f.now (files file.now) (length out.old)).result }
     ensures count { result.written ≡ length (step (scheme_in sizes) (state_at sizes u) f.now (files file.now) (length out.old)).written }
     ensures next { result.next ≡
-        cond (eqb result.result 0)
+        cond (eqb (answer_number result.result) 0)
         (unit_of (step (scheme_in sizes) (state_at sizes u) f.now (files file.now) (length out.old)).next)
         u }
     ensures output { out.new ≡
         at_front (step (scheme_in sizes) (state_at sizes u) f.now (files file.now) (length out.old)).written
         out.old }
 {
-    let parameters = u.parameters;
-    let number = step_number(sizes, parameters, u.stage, f, file, out.len());
-    if number != DONE {
+    if let Err(why) = check_step(sizes, u.parameters, u.stage, f, file, out.len()) {
         return Stepped {
-            result: number,
+            result: Err(why),
             written: 0,
             next: u,
         };
     }
-    let a = advance(sizes, u, f, file, out);
-    let next = a.next;
+    let Advanced { written, next } = advance(sizes, u, f, file, out);
     Stepped {
-        result: DONE,
-        written: a.written,
+        result: Ok(()),
+        written,
         next: padded(sizes, next),
     }
 }
@@ -61,10 +58,10 @@ impl UnitState {
     // One frame, at the sizes of the unit's set. The last four clauses are the theorem over all lists of steps and what shows that it says
     // something, so that no part can be dropped unseen.
     pub fn step(self, f: &[u8], file: &[u8], out: &mut [u8]) -> Stepped
-        ensures result { result.result ≡ (unit_step (state_of self) f.now (files file.now) (length out.old)).result }
+        ensures result { answer_number result.result ≡ (unit_step (state_of self) f.now (files file.now) (length out.old)).result }
         ensures count { result.written ≡ length (unit_step (state_of self) f.now (files file.now) (length out.old)).written }
         ensures next { result.next ≡
-            cond (eqb result.result 0)
+            cond (eqb (answer_number result.result) 0)
             (unit_of (unit_step (state_of self) f.now (files file.now) (length out.old)).next)
             self }
         ensures output { out.new ≡ at_front (unit_step (state_of self) f.now (files file.now) (length out.old)).written out.old }
@@ -73,7 +70,7 @@ impl UnitState {
         ensures three_frames { InEachSet (λ S. ThreeFrames (protocol S)) }
         ensures evidence { Evidence }
     {
-        let sizes = sizes_of(self.set as u32);
+        let sizes = sizes_of(u32::from(self.set));
         step_unit(sizes, self, f, file, out)
     }
 }

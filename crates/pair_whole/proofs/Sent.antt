@@ -1,5 +1,5 @@
 -- What a step has sent, taken over into a round.
-use mathlib.Core.Path.{◌≡◌, refl, sym, ap, subst, ◌∙◌}
+use mathlib.Core.Path.{◌≡◌, refl, sym, subst, ◌∙◌}
 use mathlib.Core.List.{List}
 use Prim.Native.Nat.{ℕ, zero, suc}
 use native.Mathlib.Nat.{suc-ne-zero}
@@ -9,20 +9,16 @@ use Rattle.pair_model.specs.Frame.{Parameters, parameters, deal_kind}
 use Rattle.pair_model.specs.Unit.{State, Stepped, begin_number, begin, least_output, step_number, step}
 use Rattle.pair_model.specs.Internal.Exchange.{Sends}
 use Rattle.pair_model.proofs.Internal.Begins.{begin_fits, begin-accepted, begin-refused}
-use Rattle.pair_frames.specs.Schemes.{set_sizes}
-use Rattle.pair_units.specs.declared.state.UnitState.{UnitState}
-use Rattle.pair_units.specs.Units.{state_at, unit_of}
+use Rattle.pair_frames.specs.Numbers.{set_sizes}
+use Rattle.pair_units.specs.Units.{state_by, unit_of}
 use Rattle.pair_units.proofs.Rooms.{halves_read}
 
-pub sends_same : {s : Stepped} {f g : List ℕ} {u v : UnitState} → (f ≡ g) × (u ≡ v) → Sends s g (state_at (set_sizes 1) v) → Sends s f (state_at (set_sizes 1) u)
-sends_same e s = record { frame_is = e.0 ∙ s.frame_is; next_is = ap (state_at (set_sizes 1)) e.1 ∙ s.next_is }
-
 -- the struct of a begun state stands for it, and so does the idle one's
-pub begin_read : (t : Parameters) (key label : List ℕ) → let s = (begin base t key label).next in state_at (set_sizes 1) (unit_of s) ≡ s
+pub begin_read : (t : Parameters) (key label : List ℕ) → let s = (begin base t key label).next in state_by (set_sizes 1) (unit_of s) ≡ s
 begin_read t key label = pick (begin_number base t key label) refl
   where
     Read : State → Type 0
-    Read s = state_at (set_sizes 1) (unit_of s) ≡ s
+    Read s = state_by (set_sizes 1) (unit_of s) ≡ s
 
     pick : (n : ℕ) → begin_number base t key label ≡ n → Read (begin base t key label).next
     pick zero e =

@@ -1,5 +1,6 @@
 // The calls of the C interface but for the units, which `protocol_c` exports: each function is total over slices, answers a number of
 // the table, and neither allocates nor keeps a pointer. All but `pair_run` name a set.
+// Stays with numbers, and with counts and places behind references: the C interface, which `protocol_c` exports as it is.
 ghost use Rattle.std.specs.Prelude.{◌≡◌, ◌*◌, length, take};
 ghost use Rattle.numbers.specs.Number.{output, reported};
 ghost use Rattle.numbers.specs.Sets.{number_in};
@@ -21,6 +22,7 @@ ghost use Rattle.pair_model.specs.WholeRun.{run_number, run_code};
 
 use matrix::file::{matrix_check, matrix_read, matrix_write};
 use matrix::ties::matrix_tied_rows;
+use numbers::refusal::answer_number;
 use pair_counter::evaluator::evaluate;
 use pair_counter::join::join;
 use pair_dealer::dealer::{deal, deal_source};
@@ -31,7 +33,7 @@ use pair_whole::run::run;
 pub fn pair_matrix_check(set: u32, file: &[u8]) -> u32
     ensures { result ≡ check_number set file.now }
 {
-    matrix_check(set, file)
+    answer_number(matrix_check(set, file))
 }
 
 // The file of rows.
@@ -39,7 +41,7 @@ pub fn pair_matrix_write(set: u32, rows: &[u8], out: &mut [u8]) -> u32
     ensures result { result ≡ write_number set rows.now (length out.old) }
     ensures output { out.new ≡ write_output set rows.now out.old }
 {
-    matrix_write(set, rows, out)
+    answer_number(matrix_write(set, rows, out))
 }
 
 // The rows of a file.
@@ -47,7 +49,7 @@ pub fn pair_matrix_read(set: u32, file: &[u8], out: &mut [u8]) -> u32
     ensures result { result ≡ read_number set file.now (length out.old) }
     ensures output { out.new ≡ read_output set file.now out.old }
 {
-    matrix_read(set, file, out)
+    answer_number(matrix_read(set, file, out))
 }
 
 // The list of the rows of a file that are tied, each with its digit, and how many they are.
@@ -59,8 +61,8 @@ pub fn pair_tied_rows(set: u32, file: &[u8], out: &mut [u8], count: &mut u64) ->
     ensures evidence { TiedRowsEvidence }
 {
     let tied = matrix_tied_rows(set, file, out);
-    *count = tied.count;
-    tied.result
+    *count = tied.unwrap_or(0);
+    answer_number(tied)
 }
 
 // The code of a key and a label.
@@ -69,7 +71,7 @@ pub fn pair_evaluate(set: u32, key: &[u8], label: &[u8], file: &[u8], out: &mut 
     ensures output { out.new ≡
         output result (code (scheme_of set) key.now label.now (files file.now)) out.old }
 {
-    evaluate(set, key, label, file, out)
+    answer_number(evaluate(set, key, label, file, out))
 }
 
 // A tape from source bytes, drawn from a starting pair on, and the next unread pair.
@@ -79,9 +81,9 @@ pub fn pair_sample(set: u32, start: u64, source: &[u8], out: &mut [u8], next: &m
     ensures output { out.new ≡ output result (sampled (scheme_of set) source.now start) out.old }
     ensures disjoint { DisjointDraws }
 {
-    let d = sample(set, start, source, out);
-    *next = d.next;
-    d.result
+    let sampled = sample(set, start, source, out);
+    *next = sampled.unwrap_or(0);
+    answer_number(sampled)
 }
 
 // Both deal frames of a tape.
@@ -91,7 +93,7 @@ pub fn pair_deal(set: u32, session: u32, line: u8, tape: &[u8], out: &mut [u8]) 
     ensures accepted_tapes { InEachSet TakesAccepted }
     ensures privacy { InEachSet (λ S. Privacy (protocol S)) }
 {
-    deal(set, session, line, tape, out)
+    answer_number(deal(set, session, line, tape, out))
 }
 
 // Both deal frames from source bytes, drawn from a starting pair on, and the next unread pair.
@@ -111,9 +113,9 @@ pub fn pair_deal_source(
     ensures disjoint { DisjointDraws }
     ensures privacy { InEachSet (λ S. Privacy (protocol S)) }
 {
-    let d = deal_source(set, session, line, start, source, out);
-    *next = d.next;
-    d.result
+    let dealt = deal_source(set, session, line, start, source, out);
+    *next = dealt.unwrap_or(0);
+    answer_number(dealt)
 }
 
 // The code of two share frames, side 0's first.
@@ -121,7 +123,7 @@ pub fn pair_join(set: u32, first: &[u8], second: &[u8], out: &mut [u8]) -> u32
     ensures result { result ≡ number_in set (join_conditions (scheme_of set) first.now second.now (length out.old)) }
     ensures output { out.new ≡ output result (joined (scheme_of set) first.now second.now) out.old }
 {
-    join(set, first, second, out)
+    answer_number(join(set, first, second, out))
 }
 
 // The lowest number over all of the input, or 0 and the code, by running the dealer and both units of set 1 in session 1 and line 0.
@@ -129,5 +131,5 @@ pub fn pair_run(input: &[u8], out: &mut [u8]) -> u32
     ensures result { result ≡ run_number input.now (length out.old) }
     ensures output { out.new ≡ output result (run_code base input.now) out.old }
 {
-    run(input, out)
+    answer_number(run(input, out))
 }

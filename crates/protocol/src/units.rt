@@ -1,7 +1,9 @@
 // The calls of the C interface on units, which `protocol_c` exports: a state stands in a slice that the caller keeps. Each function is
 // total over slices, answers a number of the table, and neither allocates nor keeps a pointer.
-ghost use Rattle.std.specs.Prelude.{◌≡◌, ◌≢◌, cond, length};
+// Stays with numbers, and a count behind a reference: the C interface, which `protocol_c` exports as it is.
+ghost use Rattle.std.specs.Prelude.{◌≡◌, ◌≢◌, [], cond, length, IfOk, OnErr};
 ghost use Rattle.numbers.specs.Number.{at_front};
+ghost use Rattle.numbers.specs.Refusals.{answer_number};
 ghost use Rattle.numbers.specs.Sets.{is_set};
 ghost use Rattle.pair_model.specs.Scheme.{files};
 ghost use Rattle.pair_model.specs.Base.{scheme_of, InEachSet};
@@ -13,7 +15,7 @@ ghost use Rattle.pair_model.specs.Evidence.{Evidence};
 ghost use Rattle.pair_model.specs.StateSlice.{state_bytes, encode_state, decode_state, slice_step, pair_begin_number, pair_begin_state, pair_step_number, pair_step_state, pair_step_written};
 ghost use Rattle.pair_model.specs.Calls.{StatesFit, CallsAreRuns};
 
-use numbers::table::{NO_SET, WRONG_LENGTH};
+use numbers::refusal::{Refusal, answer_number};
 use pair_frames::sets::{is_set, sizes_of};
 use pair_frames::sizes::{SET_AT, STATE_BYTES};
 use pair_states::beginnings::begin_slice;
@@ -43,9 +45,29 @@ pub fn pair_begin(
     ensures privacy { InEachSet (λ S. Privacy (protocol S)) }
 {
     if state.len() == STATE_BYTES {
-        return begin_slice(set, side, session, line, key, label, state);
+        return answer_number(begin_slice(set, side, session, line, key, label, state));
     }
-    if is_set(set) { WRONG_LENGTH } else { NO_SET }
+    if is_set(set) {
+        Refusal::WrongLength.number()
+    } else {
+        Refusal::NoSet.number()
+    }
+}
+
+// The step of the unit in a slice, which may have any length.
+fn step_state(state: &mut [u8], f: &[u8], file: &[u8], out: &mut [u8]) -> Result<u64, Refusal>
+    ensures result { answer_number result ≡ pair_step_number state.old f.now (files file.now) (length out.old) }
+    ensures state { state.new ≡ pair_step_state state.old f.now (files file.now) (length out.old) }
+    ensures output { out.new ≡
+        at_front (pair_step_written state.old f.now (files file.now) (length out.old)) out.old }
+    ensures count { IfOk result (λ n. n ≡ length (pair_step_written state.old f.now (files file.now) (length out.old))) }
+    ensures none { OnErr result (pair_step_written state.old f.now (files file.now) (length out.old) ≡ []) }
+{
+    if state.len() != STATE_BYTES {
+        return Err(Refusal::WrongLength);
+    }
+    let sizes = sizes_of(u32::from(state[SET_AT]));
+    step_slice(sizes, state, f, file, out)
 }
 
 // One step of the unit in a slice, in its set: what it writes goes to `out`, and how much to `count`; a refused step leaves the slice as it
@@ -65,10 +87,7 @@ pub fn pair_step(state: &mut [u8], f: &[u8], file: &[u8], out: &mut [u8], count:
     ensures three_frames { InEachSet (λ S. ThreeFrames (protocol S)) }
     ensures evidence { Evidence }
 {
-    *count = 0;
-    if state.len() != STATE_BYTES {
-        return WRONG_LENGTH;
-    }
-    let sizes = sizes_of(state[SET_AT] as u32);
-    step_slice(sizes, state, f, file, out, count)
+    let written = step_state(state, f, file, out);
+    *count = written.unwrap_or(0);
+    answer_number(written)
 }

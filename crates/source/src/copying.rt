@@ -6,46 +6,43 @@ ghost use Rattle.linear_model.specs.Tables.{from};
 ghost use Rattle.linear_model.specs.Bits.{from_bits, bit};
 ghost use Rattle.source_model.specs.Draw.{copied};
 
-use crate::reader::four_from;
-use linear_words::bytes::{least, wide};
+use crate::reader::PairReader;
 use linear_words::copies::put;
 use linear_words::words::{put_word, word};
 
-// The eight bytes that begin at bit `q` of byte `i`.
+// The eight bytes that begin at bit `q` of byte `i`. That `q` is below 8 is written out, so that the compiler makes one shift of both.
 fn shifted_word(source: &[u8], i: usize, q: usize) -> u64
     requires { (i + 9 ≤ length source.now) × (0 < q) × (q < 8) }
     ensures { result ≡ from_bits 64 (from (8 * i + q) (bit source.now)) }
 {
-    (word(source, i) >> q) | (wide(source[i + 8]) << (64 - q))
+    (word(source, i) >> (q % 8)) | (u64::from(source[i + 8]) << (64 - q % 8))
 }
 
-// Copies from pair `at` of byte `byte` on, by words. Two are read before one is stored: so the compiler takes them at once.
-fn copy_words(source: &[u8], byte: usize, at: usize, out: &mut [u8])
-    requires { (0 < at) × (at < 4) × (8 ≤ length out.old) × (byte + length out.old < length source.now) }
-    ensures { out.new ≡ copied (length out.old) source.now (4 * byte + at) }
+// Copies from a reader's pair on, by words. Two are read before one is stored: so the compiler takes them at once.
+fn copy_words(reader: PairReader, out: &mut [u8])
+    requires { (0 < reader.pair) × (8 ≤ length out.old) × (reader.byte + length out.old < length reader.source.now) }
+    ensures { out.new ≡ copied (length out.old) reader.entry.source.now (4 * reader.entry.byte + reader.entry.pair) }
 {
     let n = out.len();
-    let mut i: usize = 0;
-    while i < n {
-        let p = least(i, n - 8);
-        let q = least(i + 8, n - 8);
-        let first = shifted_word(source, byte + p, 2 * at);
-        let second = shifted_word(source, byte + q, 2 * at);
+    let last = n - 8;
+    for turn in 0..n.div_ceil(16) {
+        let p = last.min(16 * turn);
+        let q = last.min(16 * turn + 8);
+        let first = shifted_word(reader.source, reader.byte + p, 2 * reader.pair);
+        let second = shifted_word(reader.source, reader.byte + q, 2 * reader.pair);
         put_word(out, p, first);
         put_word(out, q, second);
-        i += 16;
     }
 }
 
-// Copies from pair `at` of byte `byte` on, byte by byte; past the end, 0.
-fn copy_bytes(source: &[u8], byte: usize, at: usize, out: &mut [u8])
-    requires { (at < 4) × (byte < 2 ^ 62) }
-    ensures { out.new ≡ copied (length out.old) source.now (4 * byte + at) }
+// Copies from a reader's pair on, byte by byte; past the end, 0.
+fn copy_bytes(reader: PairReader, out: &mut [u8])
+    requires { reader.byte < 2 ^ 62 }
+    ensures { out.new ≡ copied (length out.old) reader.entry.source.now (4 * reader.entry.byte + reader.entry.pair) }
 {
-    let mut i: usize = 0;
-    while i < out.len() {
-        out[i] = four_from(source, byte + i, at).value;
-        i += 1;
+    let mut reader = reader;
+    for byte in out.iter_mut() {
+        *byte = reader.take_four();
     }
 }
 
@@ -53,18 +50,17 @@ fn copy_bytes(source: &[u8], byte: usize, at: usize, out: &mut [u8])
 pub fn copy_pairs(source: &[u8], start: u64, out: &mut [u8])
     ensures { out.new ≡ copied (length out.old) source.now start }
 {
-    let byte = (start / 4) as usize;
-    let at = (start % 4) as usize;
+    let reader = PairReader::at_pair(source, start);
     let n = out.len();
-    if byte < source.len() && n <= source.len() - byte {
-        if at == 0 {
-            put(&source[byte..byte + n], out, 0);
+    if reader.byte < source.len() && n <= source.len() - reader.byte {
+        if reader.pair == 0 {
+            put(&source[reader.byte..reader.byte + n], out, 0);
             return;
         }
-        if 8 <= n && n < source.len() - byte {
-            copy_words(source, byte, at, out);
+        if 8 <= n && n < source.len() - reader.byte {
+            copy_words(reader, out);
             return;
         }
     }
-    copy_bytes(source, byte, at, out);
+    copy_bytes(reader, out);
 }

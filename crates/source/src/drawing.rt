@@ -1,31 +1,25 @@
 // Draws: bytes copied from a pair on, then the trits that a reader of pairs finds. Each pair is stored where the next trit goes; one of
 // value 3 does not count, so the pair after it is stored in its place. No branch depends on the other pairs.
-ghost use Rattle.std.specs.Prelude.{◌≡◌, ℕ, ◌+◌, ◌-◌, ◌*◌, ◌/◌, ◌^◌, ◌<◌, ◌≤◌, length, set};
-ghost use Rattle.numbers.specs.Number.{output, reported};
+ghost use Rattle.std.specs.Prelude.{◌≡◌, ℕ, ◌+◌, ◌-◌, ◌*◌, ◌/◌, ◌^◌, ◌<◌, ◌≤◌, length, set, IfOk};
+ghost use Rattle.numbers.specs.Number.{output};
+ghost use Rattle.numbers.specs.Refusals.{answer_number};
 ghost use Rattle.source_model.specs.Draw.{copied, drawn, source_number};
 ghost use Rattle.source_model.specs.Disjoint.{DisjointDraws};
 ghost use Rattle.source_model.specs.Internal.Drawing.{Reading, Drew, keep_four};
 
 use crate::copying::copy_pairs;
-use crate::reader::{four_from, pair_from};
-use numbers::table::{DONE, SHORT_SOURCE};
+use crate::reader::PairReader;
+use numbers::refusal::Refusal;
 
 // A source has fewer bytes, so that 64 bits count its pairs.
 const SOURCE_LIMIT: usize = 0x4000_0000_0000_0000;
-
-// How many trits are found, and the next pair.
-#[derive(Clone, Copy)]
-struct Drawing {
-    pub found: usize,
-    pub next: u64,
-}
 
 // How many trits a pair is: none if it is 3.
 fn counted(p: u8) -> usize
     requires { p < 4 }
     ensures { result ≡ 1 - p / 3 }
 {
-    (1 - p / 3) as usize
+    usize::from(1 - p / 3)
 }
 
 // Stores a pair as trit `found`, and gives how many are found then.
@@ -49,126 +43,79 @@ fn keep_four(trits: &mut [u8], found: usize, four: u8) -> usize
     keep(trits, three, four / 64 % 4)
 }
 
-// The number of pair `pair` of byte `byte`.
-fn pair_number(byte: usize, pair: usize) -> u64
-    requires { (byte < 2 ^ 62) × (pair < 4) }
-    ensures { result ≡ 4 * byte + pair }
+// Reads four pairs at a time while four more trits are wanted and the source has as many pairs: each time at the same place of a byte. Gives
+// how many trits are found.
+fn draw_fours(reader: &mut PairReader, trits: &mut [u8]) -> usize
+    requires { (length reader.old.source.now < 2 ^ 62) × (4 * reader.old.byte + reader.old.pair ≤ 4 * length reader.old.source.now) }
+    ensures source { reader.new.source ≡ reader.old.source }
+    ensures reading { Reading reader.old.source.now (length trits.old) (4 * reader.old.byte + reader.old.pair) trits.new result (4 * reader.new.byte + reader.new.pair) }
 {
-    (4 * byte + pair) as u64
-}
-
-// Reads four pairs at a time while four more trits are wanted and the source has as many pairs: each time at the same place of a byte.
-fn draw_fours(source: &[u8], from: usize, at: usize, trits: &mut [u8]) -> Drawing
-    requires { (length source.now < 2 ^ 62) × (at < 4) × (4 * from + at ≤ 4 * length source.now) }
-    ensures { Reading source.now (length trits.old) (4 * from + at) trits.new result.found result.next }
-{
-    let wanted = trits.len();
-    let mut found: usize = 0;
-    let mut byte = from;
-    if wanted < 4 || source.len() < 1 {
-        return Drawing {
-            found: found,
-            next: pair_number(byte, at),
-        };
+    let Some(last) = trits.len().checked_sub(4) else {
+        return 0;
+    };
+    let mut found = 0;
+    // Stays a while: it ends by what is found, and each turn moves the reader, so there is no index to count.
+    while found <= last && reader.has_four() {
+        found = keep_four(trits, found, reader.take_four());
     }
-    let last = wanted - 4;
-    let end = source.len() - 1;
-    while found <= last {
-        if end <= byte {
-            return Drawing {
-                found: found,
-                next: pair_number(byte, at),
-            };
-        }
-        let p = four_from(source, byte, at);
-        found = keep_four(trits, found, p.value);
-        byte = p.byte;
-    }
-    Drawing {
-        found: found,
-        next: pair_number(byte, at),
-    }
+    found
 }
 
 // Reads on pair by pair, until all trits are found or the source ends, so that no pair after the last trit is read.
-fn draw_pairs(source: &[u8], from: Drawing, trits: &mut [u8]) -> Drawing
-    requires { (length source.now < 2 ^ 62) × (from.found ≤ length trits.old) × (from.next ≤ 4 * length source.now) }
-    ensures { (start : ℕ) → Reading source.now (length trits.old) start trits.old from.found from.next
-        → Drew source.now (length trits.old) start trits.new result.found result.next }
+fn draw_pairs(reader: &mut PairReader, already: usize, trits: &mut [u8]) -> usize
+    requires { (length reader.old.source.now < 2 ^ 62) × (already ≤ length trits.old) × (4 * reader.old.byte + reader.old.pair ≤ 4 * length reader.old.source.now) }
+    ensures source { reader.new.source ≡ reader.old.source }
+    ensures drew { (start : ℕ) → Reading reader.old.source.now (length trits.old) start trits.old already (4 * reader.old.byte + reader.old.pair)
+        → Drew reader.old.source.now (length trits.old) start trits.new result (4 * reader.new.byte + reader.new.pair) }
 {
-    let wanted = trits.len();
-    let mut found = from.found;
-    let mut next = from.next;
-    while found < wanted {
-        let byte = (next / 4) as usize;
-        if source.len() <= byte {
-            return Drawing {
-                found: found,
-                next: next,
-            };
-        }
-        let p = pair_from(source, byte, (next % 4) as usize);
-        found = keep(trits, found, p.value);
-        next = pair_number(p.byte, p.pair);
+    let mut found = already;
+    // Stays a while, as above.
+    while found < trits.len() && reader.byte < reader.source.len() {
+        found = keep(trits, found, reader.take());
     }
-    Drawing {
-        found: found,
-        next: next,
-    }
+    found
 }
 
-// Fills `trits` with those that stand from pair `start` on, until it is full or the source ends.
-fn draw_trits(source: &[u8], start: u64, trits: &mut [u8]) -> Drawing
-    requires { (length source.now < 2 ^ 62) × (start ≤ 4 * length source.now) }
-    ensures { Drew source.now (length trits.old) start trits.new result.found result.next }
+// Fills `trits` with those that stand from the reader's pair on, until it is full or the source ends. Gives how many are found.
+fn draw_trits(reader: &mut PairReader, trits: &mut [u8]) -> usize
+    requires { (length reader.old.source.now < 2 ^ 62) × (4 * reader.old.byte + reader.old.pair ≤ 4 * length reader.old.source.now) }
+    ensures { Drew reader.old.source.now (length trits.old) (4 * reader.old.byte + reader.old.pair) trits.new result (4 * reader.new.byte + reader.new.pair) }
 {
-    let d = draw_fours(source, (start / 4) as usize, (start % 4) as usize, trits);
-    draw_pairs(source, d, trits)
+    let found = draw_fours(reader, trits);
+    draw_pairs(reader, found, trits)
 }
 
-// A draw's number, and the next unread pair.
-#[derive(Clone, Copy)]
-pub struct Draw {
-    pub result: u32,
-    pub next: u64,
-}
-
-// A draw that is refused: it reports no pair.
-pub fn refused(number: u32) -> Draw
-    ensures { (result.result ≡ number) × (result.next ≡ 0) }
-{
-    Draw {
-        result: number,
-        next: 0,
-    }
-}
-
-// A draw from pair `start` on, for any number of bytes and of trits: fills `bytes` with what is copied, and `trits` from the pairs after. Of a
-// refused draw the trits are free. The start is compared before anything is added to it, since it may be any number.
-pub fn draw_from(start: u64, source: &[u8], bytes: &mut [u8], trits: &mut [u8]) -> Draw
-    ensures result { result.result ≡ source_number (length bytes.old) (length trits.old) source.now start }
-    ensures next { result.next ≡ reported result.result (drawn (length bytes.old) (length trits.old) source.now start).next }
-    ensures bytes { bytes.new ≡ output result.result (copied (length bytes.old) source.now start) bytes.old }
-    ensures trits { result.result ≡ 0 → trits.new ≡ (drawn (length bytes.old) (length trits.old) source.now start).trits }
+// A draw from pair `start` on, for any number of bytes and of trits: fills `bytes` with what is copied, and `trits` from the pairs after, and
+// gives the next unread pair. Of a refused draw the trits are free. The start is compared before anything is added to it, since it may be any
+// number.
+#[tactic(auto, using(source_model::proofs::Disjoint::disjoint_draws, source_model::proofs::Conditions::too_long, source_model::proofs::Conditions::too_short, source_model::proofs::Conditions::too_few), unfolding(numbers::specs::Number::output, source_model::specs::Draw::drawn))]
+pub fn draw_from(
+    start: u64,
+    source: &[u8],
+    bytes: &mut [u8],
+    trits: &mut [u8],
+) -> Result<u64, Refusal>
+    ensures result { answer_number result ≡ source_number (length bytes.old) (length trits.old) source.now start }
+    ensures next { IfOk result (λ next. next ≡ (drawn (length bytes.old) (length trits.old) source.now start).next) }
+    ensures bytes { bytes.new ≡ output (answer_number result) (copied (length bytes.old) source.now start) bytes.old }
+    ensures trits { answer_number result ≡ 0 → trits.new ≡ (drawn (length bytes.old) (length trits.old) source.now start).trits }
     ensures disjoint { DisjointDraws }
 {
     if SOURCE_LIMIT <= source.len() {
-        return refused(SHORT_SOURCE);
+        return Err(Refusal::ShortSource);
     }
     let pairs = 4 * source.len() as u64;
     if pairs < start {
-        return refused(SHORT_SOURCE);
+        return Err(Refusal::ShortSource);
     }
     if (pairs - start) / 4 < bytes.len() as u64 {
-        return refused(SHORT_SOURCE);
+        return Err(Refusal::ShortSource);
     }
-    let d = draw_trits(source, start + 4 * bytes.len() as u64, trits);
-    if d.found < trits.len() {
-        return refused(SHORT_SOURCE);
+    let mut reader = PairReader::at_pair(source, start + 4 * bytes.len() as u64);
+    let found = draw_trits(&mut reader, trits);
+    if found < trits.len() {
+        return Err(Refusal::ShortSource);
     }
     copy_pairs(source, start, bytes);
-    Draw {
-        result: DONE,
-        next: d.next,
-    }
+    Ok(reader.next())
 }

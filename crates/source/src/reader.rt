@@ -1,12 +1,8 @@
-// The reader of pairs: a source and the place of the next pair of bits. The proofs over the struct that holds the
-// source are walks by hand, so it has few functions: the work is done by `next_pairs`, and callers use `pair_from` and `four_from`.
-ghost use Rattle.std.specs.Prelude.{◌≡◌, ◌+◌, ◌*◌, ◌%◌, ◌<◌, ◌≤◌, get_or};
+// The reader of pairs: a source and the place of the next pair of bits. Whoever has only a place takes pairs by `pair_from` and `four_from`.
+ghost use Rattle.std.specs.Prelude.{◌≡◌, ◌+◌, ◌*◌, ◌%◌, ◌^◌, ◌<◌, ◌≤◌, length, get_or, nat_lt};
 ghost use Rattle.source_model.specs.Internal.Reading.{pairs, PairRead, PairsRead};
 
-use linear_words::bytes::{byte_at, wide};
-
-// The last byte that a place can name.
-const LAST_BYTE: usize = 0xffff_ffff_ffff_ffff;
+use linear_words::bytes::byte_at;
 
 // The value of one pair or of several, the first one lowest, and the place after them: pair `pair` of byte `byte`.
 #[derive(Clone, Copy)]
@@ -16,117 +12,116 @@ pub struct PairAndPlace {
     pub pair: usize,
 }
 
-// The byte after byte `byte`; past the end, 0.
-fn byte_after(source: &[u8], byte: usize) -> u8
-    ensures { result ≡ get_or source.now (byte + 1) 0 }
-{
-    if byte < source.len() {
-        return byte_at(source, byte + 1);
-    }
-    0
-}
-
-// The next `count` pairs at a place, which may begin in one byte and end in the next; past the end, 0.
-fn pairs_at(count: usize, source: &[u8], byte: usize, at: usize) -> u8
-    requires { (count ≤ 4) × (at < 4) }
-    ensures { result ≡ pairs source.now (4 * byte + at) count }
-{
-    let two = wide(byte_at(source, byte)) + 256 * wide(byte_after(source, byte));
-    ((two >> (2 * at)) % 256 % (1 << (2 * count))) as u8
-}
-
-// The next `count` pairs at a place, and the place after them. Where no place could name that, they have no next place but their own.
-fn next_pairs(count: usize, source: &[u8], byte: usize, at: usize) -> PairAndPlace
-    requires { (count ≤ 4) × (at < 4) }
-    ensures { PairsRead source.now count (4 * byte + at) result.value result.byte result.pair }
-{
-    let value = pairs_at(count, source, byte, at);
-    if at + count < 4 {
-        return PairAndPlace {
-            value: value,
-            byte: byte,
-            pair: at + count,
-        };
-    }
-    if byte < LAST_BYTE {
-        return PairAndPlace {
-            value: value,
-            byte: byte + 1,
-            pair: at + count - 4,
-        };
-    }
-    PairAndPlace {
-        value: value,
-        byte: byte,
-        pair: at,
-    }
-}
-
-// A reader: its source, and the next pair, pair `pair` of byte `byte`.
+// A reader: its source, and the next pair, pair `pair` of byte `byte`. The place may be past the end, where pairs are 0.
 #[derive(Clone, Copy)]
 pub struct PairReader<'a> {
     pub source: &'a [u8],
     pub byte: usize,
     pub pair: usize,
+    ghost in_byte: { pair < 4 },
 }
 
-// The value of pairs, and the reader after them.
-#[derive(Clone, Copy)]
-pub struct PairAndReader<'a> {
-    pub value: u8,
-    pub reader: PairReader<'a>,
-}
+impl<'a> PairReader<'a> {
+    // A reader of a source, at a place.
+    pub(crate) fn at(source: &'a [u8], byte: usize, pair: usize) -> PairReader<'a>
+        requires { pair < 4 }
+        ensures { (result.source ≡ source.entry) × (result.byte ≡ byte) × (result.pair ≡ pair) }
+    {
+        PairReader { source, byte, pair }
+    }
 
-// Makes a reader of a source, at a place.
-fn reader_at<'a>(source: &'a [u8], byte: usize, at: usize) -> PairReader<'a>
-    ensures { (result.source ≡ source.entry) × (result.byte ≡ byte) × (result.pair ≡ at) }
-{
-    PairReader {
-        source: source,
-        byte: byte,
-        pair: at,
+    // A reader of a source, at pair `k`.
+    pub(crate) fn at_pair(source: &'a [u8], k: u64) -> PairReader<'a>
+        ensures { (result.source ≡ source.entry) × (4 * result.byte + result.pair ≡ k) }
+    {
+        PairReader::at(source, (k / 4) as usize, (k % 4) as usize)
+    }
+
+    // The number of the next pair.
+    pub(crate) fn next(&self) -> u64
+        requires { self.now.byte < 2 ^ 62 }
+        ensures { result ≡ 4 * self.now.byte + self.now.pair }
+    {
+        (4 * self.byte + self.pair) as u64
+    }
+
+    // The byte after the next pair's; past the end, 0.
+    fn byte_after(&self) -> u8
+        ensures { result ≡ get_or self.now.source.now (self.now.byte + 1) 0 }
+    {
+        if self.byte < self.source.len() {
+            byte_at(self.source, self.byte + 1)
+        } else {
+            0
+        }
+    }
+
+    // The next `count` pairs, which may begin in one byte and end in the next; past the end, 0.
+    fn peek(&self, count: usize) -> u8
+        requires { count ≤ 4 }
+        ensures { result ≡ pairs self.now.source.now (4 * self.now.byte + self.now.pair) count }
+    {
+        let two = u64::from(byte_at(self.source, self.byte)) + 256 * u64::from(self.byte_after());
+        ((two >> (2 * self.pair)) % 256 % (1 << (2 * count))) as u8
+    }
+
+    // Whether the source has the byte after the next pair's, too, so that the next four pairs are all there.
+    pub(crate) fn has_four(&self) -> bool
+        ensures { result ≡ nat_lt (self.now.byte + 1) (length self.now.source.now) }
+    {
+        !self.source.is_empty() && self.byte < self.source.len() - 1
+    }
+
+    // Takes the next pair. Where no place could name the one after it, the reader stays.
+    pub(crate) fn take(&mut self) -> u8
+        ensures source { self.new.source ≡ self.old.source }
+        ensures read { PairRead self.old.source.now (4 * self.old.byte + self.old.pair) result self.new.byte self.new.pair }
+    {
+        let value = self.peek(1);
+        if self.pair < 3 {
+            self.pair += 1;
+        } else if self.byte < usize::MAX {
+            self.byte += 1;
+            self.pair = 0;
+        }
+        value
+    }
+
+    // The same of four pairs at once: the reader stands at the same place of the next byte then.
+    pub(crate) fn take_four(&mut self) -> u8
+        ensures source { self.new.source ≡ self.old.source }
+        ensures read { PairsRead self.old.source.now 4 (4 * self.old.byte + self.old.pair) result self.new.byte self.new.pair }
+    {
+        let value = self.peek(4);
+        if self.byte < usize::MAX {
+            self.byte += 1;
+        }
+        value
     }
 }
 
-// Takes the next pairs, four at most: gives their value and the reader at the place after them.
-fn take_pairs<'a>(count: usize, r: PairReader<'a>) -> PairAndReader<'a>
-    requires { (count ≤ 4) × (r.pair < 4) }
-    ensures { (result.reader.source ≡ r.entry.source) × PairsRead r.entry.source.now count (4 * r.entry.byte + r.entry.pair) result.value result.reader.byte result.reader.pair }
-{
-    let t = next_pairs(count, r.source, r.byte, r.pair);
-    PairAndReader {
-        value: t.value,
-        reader: PairReader {
-            source: r.source,
-            byte: t.byte,
-            pair: t.pair,
-        },
-    }
-}
-
-// Takes the pairs at a place of a source through a reader.
-fn read_pairs(count: usize, source: &[u8], byte: usize, at: usize) -> PairAndPlace
-    requires { (count ≤ 4) × (at < 4) }
-    ensures { PairsRead source.now count (4 * byte + at) result.value result.byte result.pair }
-{
-    let t = take_pairs(count, reader_at(source, byte, at));
-    PairAndPlace {
-        value: t.value,
-        byte: t.reader.byte,
-        pair: t.reader.pair,
-    }
-}
-
-// The pair at a place of a source, also past its end, and the place after it. Whoever calls it needs no walk.
+// The pair at a place of a source, also past its end, and the place after it.
 pub fn pair_from(source: &[u8], byte: usize, at: usize) -> PairAndPlace
     ensures { PairRead source.now (4 * byte + at % 4) result.value result.byte result.pair }
 {
-    read_pairs(1, source, byte, at % 4)
+    let mut reader = PairReader::at(source, byte, at % 4);
+    let value = reader.take();
+    PairAndPlace {
+        value,
+        byte: reader.byte,
+        pair: reader.pair,
+    }
 }
 
 // The same of four pairs at once, a whole byte of the source if the place is its first pair.
 pub fn four_from(source: &[u8], byte: usize, at: usize) -> PairAndPlace
     ensures { PairsRead source.now 4 (4 * byte + at % 4) result.value result.byte result.pair }
 {
-    read_pairs(4, source, byte, at % 4)
+    let mut reader = PairReader::at(source, byte, at % 4);
+    let value = reader.take_four();
+    PairAndPlace {
+        value,
+        byte: reader.byte,
+        pair: reader.pair,
+    }
 }

@@ -1,7 +1,8 @@
--- Laws of the number of rows one after the other, as loops find it, part by part.
-use mathlib.Core.Path.{◌≡◌, refl, sym, ap, ap₂, ◌∙◌}
+-- Laws of the answer to rows one after the other, as loops find it, part by part.
+use mathlib.Core.Path.{◌≡◌, refl, sym, ap, ◌∙◌}
 use mathlib.Core.List.{List}
-use mathlib.Core.Bool.{Bool, true, false, cond, not, ◌&&◌}
+use mathlib.Core.Bool.{Bool, true, false, cond, not, ◌&&◌, ◌||◌}
+use Rattle.std.specs.Prelude.{Result, Ok, Err}
 use Prim.Native.Nat.{ℕ, zero, suc, ◌+◌, ◌*◌, ◌/◌, ◌<◌, ◌≤◌, min}
 use native.Mathlib.Nat.{add-zero, add-suc, mul-le-mul_left}
 use native.Mathlib.Omega.{arith}
@@ -9,10 +10,11 @@ use lib.ListN.{length, get_or, take, drop}
 use Rattle.linear_model.specs.Tables.{every}
 use Rattle.linear_model.specs.Trits.{fit_trits, zero_trits}
 use Rattle.linear_model.proofs.Tables.{every_fails}
-use Rattle.numbers.specs.Number.{first}
+use Rattle.numbers.specs.declared.refusal.Refusal.{Refusal}
+use Rattle.numbers.specs.declared.refusal.Refusal.TheVariants.{UnfitTrit}
 use Rattle.matrix_model.specs.Block.{Layout, rows_in}
 use Rattle.matrix_model.specs.File.{Fits, block_count, file_size, rows_size, row_plane_of, rows_of, fit_row}
-use Rattle.matrix_model.specs.Internal.Rows.{nonzero_row, rows_number, rows_held, held_bytes, rows_in_file, rows_for_block}
+use Rattle.matrix_model.specs.Internal.Rows.{nonzero_row, rows_answer, rows_in_file, rows_for_block}
 use Rattle.matrix_model.proofs.Parts.{same_part, get_d_part, length_part}
 use Rattle.matrix_model.proofs.Layouts.{planes, next_bytes, full}
 use Rattle.matrix_model.proofs.Rows.{length_rows, get_d_rows}
@@ -39,10 +41,6 @@ pub record Among (layout : Layout) (set : List ℕ) (i k : ℕ) (part : List ℕ
   pub long : length part ≡ layout.row_bytes * k
   pub same : (q : ℕ) → q < layout.row_bytes * k → get_or set (layout.row_bytes * i + q) 0 ≡ get_or part q 0
 
--- the number by the two tests
-abbrev judged : Bool → Bool → ℕ
-judged fit nonzero = cond (not fit) 10 (cond (not nonzero) 12 0)
-
 module _ {layout : Layout} (fits : Fits layout) {set : List ℕ} {i k : ℕ} {part : List ℕ} (a : Among layout set i k part) where
   same_bytes : (j : ℕ) → j < k → take layout.row_bytes (drop (layout.row_bytes * (i + j)) set) ≡ take layout.row_bytes (drop (layout.row_bytes * j) part)
   same_bytes j l =
@@ -68,91 +66,65 @@ module _ {layout : Layout} (fits : Fits layout) {set : List ℕ} {i k : ℕ} {pa
       every_split i k (nonzero_row layout set) (nonzero_row layout part)
       (λ j l. ap not (sym (zero-take m (drop (2 * m * (i + j)) set)) ∙ ap (zero_trits m 0) (same_row j l) ∙ zero-take m (drop (2 * m * j) part)))
 
--- the number of one row, by the tests of the slice that has it
+not_not : (b : Bool) → b ≡ not (not b)
+not_not true = refl
+not_not false = refl
+
+-- the answer to one row, by the tests of the slice that has it
 pub one_row : (layout : Layout) (row : List ℕ) (t : ℕ) (f z : Bool) → length row ≡ layout.row_bytes → 8 * row_plane_of layout ≤ t
     → f ≡ fit_trits (length row / 2) (min t (8 * (length row / 2))) row
-    → z ≡ zero_trits (length row / 2) 0 row → judged f (not z) ≡ rows_number layout 1 row
-unfolding rows_number first every
+    → z ≡ zero_trits (length row / 2) 0 row → cond f (Ok z) (Err UnfitTrit) ≡ rows_answer layout 1 row
+unfolding rows_answer every
 one_row layout row t f z e l hf hz =
     let m : min t (8 * row_plane_of layout) ≡ 8 * row_plane_of layout = omega arith in
     let none : 2 * row_plane_of layout * 0 ≡ 0 = omega arith in
-    rw (hf, hz, e, m, none)
+    let p = row_plane_of layout in
+    rw (hf, hz, e, m, none) (ap (λ (b : Bool). cond (fit_trits p (8 * p) row) (Ok b) (Err UnfitTrit)) {x = zero_trits p 0 row} (not_not _))
 
--- the number of the first i rows, none of which has a trit with both bits set
-pub record Judging (layout : Layout) (set : List ℕ) (i number : ℕ) : Type 0 where
+-- the first i rows have no trit with both bits set, and whether one of them is all zero
+pub record Judging (layout : Layout) (set : List ℕ) (i : ℕ) (zero : Bool) : Type 0 where
   pub fit : every i (fit_row layout set) ≡ true
-  pub is : number ≡ rows_number layout i set
+  pub is : zero ≡ not (every i (nonzero_row layout set))
 
 -- where a loop begins
-pub judging_none : {layout : Layout} {set : List ℕ} → Judging layout set 0 0
-unfolding rows_number first every
+pub judging_none : {layout : Layout} {set : List ℕ} → Judging layout set 0 false
+unfolding every
 judging_none = record { fit = refl; is = refl }
 
 -- where it ends
-pub judging_all : {layout : Layout} {set : List ℕ} {i number : ℕ} (n : ℕ) → Judging layout set i number → i ≡ n → number ≡ rows_number layout n set
-judging_all n j e = rw e at j.is
+pub judging_all : {layout : Layout} {set : List ℕ} {i : ℕ} {zero : Bool} (n : ℕ) → Judging layout set i zero → i ≡ n → Ok zero ≡ rows_answer layout n set
+unfolding rows_answer
+judging_all n j e = let k = rw e at j in rw (k.fit, ← k.is)
 
--- a part with another number than 10 is fit, and a zero row in it or before it gives 12
-fit_found : (f z : Bool) → (judged f z ≡ 10 → ⊥) → f ≡ true
-fit_found true z h = refl
-fit_found false z h = absurd (h refl)
+-- a part that is accepted has no trit with both bits set
+pub accepted : (f z found : Bool) → ◌≡◌ {A = Result Bool Refusal} (cond f (Ok z) (Err UnfitTrit)) (Ok found) → (f ≡ true) × (z ≡ found)
+accepted true z found e = (refl, cc)
+accepted false z found e = cc
 
-found-next : (Z z : Bool) → (judged true z ≡ 0 → ⊥) → judged true z ≡ judged true (Z && z)
-found-next Z true h = absurd (h refl)
-found-next true false h = refl
-found-next false false h = refl
+pub refused : (f z : Bool) (refusal : Refusal) → ◌≡◌ {A = Result Bool Refusal} (cond f (Ok z) (Err UnfitTrit)) (Err refusal) → (f ≡ false) × (UnfitTrit ≡ refusal)
+refused true z refusal e = cc
+refused false z refusal e = (refl, cc)
 
-kept_next : (Z z : Bool) → judged true z ≡ 0 → judged true Z ≡ judged true (Z && z)
-kept_next true true e = refl
-kept_next false true e = refl
-kept_next Z false e = absurd (omega arith)
+either_zero : (a b : Bool) → (not a || not b) ≡ not (a && b)
+either_zero true b = refl
+either_zero false b = refl
 
-unfit_found : (f z : Bool) → judged f z ≡ 10 → f ≡ false
-unfit_found false z e = refl
-unfit_found true true e = absurd (omega arith)
-unfit_found true false e = absurd (omega arith)
-
--- a part more: it has a number, which is then that of all; or it has none
-module _ {layout : Layout} (fits : Fits layout) {set : List ℕ} {i k number found : ℕ} {part : List ℕ} (a : Among layout set i k part) (j : Judging layout set i number)
-    (e : found ≡ rows_number layout k part) where
-  fit_more : (found ≡ 10 → ⊥) → every (i + k) (fit_row layout set) ≡ true
-  unfolding rows_number first
-  fit_more h = fit_part fits a ∙ rw (j.fit, fit_found (every k (fit_row layout part)) (every k (nonzero_row layout part)) (λ z. h (e ∙ z)))
-
-  of_zeros : (found ≡ 10 → ⊥) → found ≡ judged true (every k (nonzero_row layout part))
-  unfolding rows_number first
-  of_zeros h = rw (fit_found (every k (fit_row layout part)) (every k (nonzero_row layout part)) (λ z. h (e ∙ z))) at e
-
-  pub judging_found : {next : ℕ} → next ≡ found → (found ≡ 10 → ⊥) → (found ≡ 0 → ⊥) → Judging layout set (i + k) next
-  unfolding rows_number first
-  judging_found p h l =
+-- a part more: it is accepted, or it is refused, and so is the whole
+module _ {layout : Layout} (fits : Fits layout) {set : List ℕ} {i k : ℕ} {zero : Bool} {part : List ℕ} (a : Among layout set i k part) (j : Judging layout set i zero) where
+  pub judging_more : {found : Bool} → rows_answer layout k part ≡ Ok found → Judging layout set (i + k) (zero || found)
+  unfolding rows_answer
+  judging_more {found} e =
+      let h = accepted (every k (fit_row layout part)) (not (every k (nonzero_row layout part))) found e in
       record {
-        fit = fit_more h;
-        is =
-            p
-            ∙ of_zeros h
-            ∙ found-next (every i (nonzero_row layout set)) (every k (nonzero_row layout part)) (λ z. l (of_zeros h ∙ z))
-            ∙ ap₂ judged (sym (fit_more h)) (sym (nonzero_part fits a));
+        fit = fit_part fits a ∙ rw (j.fit, h.0);
+        is = rw (j.is, ← h.1) (either_zero _ _ ∙ ap not (sym (nonzero_part fits a)));
       }
 
-  pub judging_kept : {next : ℕ} → next ≡ number → (found ≡ 10 → ⊥) → found ≡ 0 → Judging layout set (i + k) next
-  unfolding rows_number first
-  judging_kept p h l =
-      record {
-        fit = fit_more h;
-        is =
-            p
-            ∙ rw j.fit at j.is
-            ∙ kept_next (every i (nonzero_row layout set)) (every k (nonzero_row layout part)) (sym (of_zeros h) ∙ l)
-            ∙ ap₂ judged (sym (fit_more h)) (sym (nonzero_part fits a));
-      }
-
-  -- or a trit with both bits set, and so has the whole
-  pub judging_unfit : (n : ℕ) → i + k ≤ n → found ≡ 10 → 10 ≡ rows_number layout n set
-  unfolding rows_number first
-  judging_unfit n l h =
-      let u : every k (fit_row layout part) ≡ false = unfit_found (every k (fit_row layout part)) (every k (nonzero_row layout part)) (sym e ∙ h) in
-      rw (← every_fails (i + k) n (fit_row layout set) l (fit_part fits a ∙ rw (j.fit, u)))
+  pub judging_unfit : {refusal : Refusal} (n : ℕ) → i + k ≤ n → rows_answer layout k part ≡ Err refusal → Err refusal ≡ rows_answer layout n set
+  unfolding rows_answer
+  judging_unfit {refusal} n l e =
+      let h = refused (every k (fit_row layout part)) (not (every k (nonzero_row layout part))) refusal e in
+      rw (← every_fails (i + k) n (fit_row layout set) l (fit_part fits a ∙ rw (j.fit, h.0)), h.1)
 
 -- a part that is cut out
 pub among_part : {layout : Layout} {set part : List ℕ} (i k : ℕ) → layout.row_bytes * (i + k) ≤ length set
@@ -188,8 +160,3 @@ module _ (layout : Layout) (fits : Fits layout) where
       let at : layout.row_bytes * layout.block_rows * b ≡ layout.row_bytes * (layout.block_rows * b) = omega arith in
       among_part (layout.block_rows * b) (rows_in layout b) (omega arith)
       (e ∙ ap (λ (x : ℕ). take (layout.row_bytes * rows_in layout b) (drop x set)) at)
-
--- the rows, in a file or by themselves
-pub length_held : (layout : Layout) (inBlocks : Bool) (s : List ℕ) → length s ≡ held_bytes layout inBlocks → length (rows_held layout inBlocks s) ≡ rows_size layout
-length_held layout true s h = length_rows layout s
-length_held layout false s h = h

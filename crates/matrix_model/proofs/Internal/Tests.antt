@@ -1,36 +1,43 @@
--- Laws of tests over the numbers below a bound, as loops make them.
+-- Laws of tests over the numbers below a bound, as iterators and loops make them.
 use mathlib.Core.Path.{◌≡◌, refl, sym, ap, ◌∙◌}
-use mathlib.Core.Bool.{Bool, true, false, not, ◌&&◌}
-use Prim.Native.Nat.{ℕ, zero, suc, ◌+◌, ◌<◌, ◌≤◌, zero-le}
+use mathlib.Core.Bool.{Bool, true, false, ◌&&◌}
+use Prim.Native.Nat.{ℕ, zero, suc, ◌+◌}
+use native.Mathlib.Nat.{zero-add}
 use native.Mathlib.Omega.{arith}
 use borrow.Author.Tests.{ne_eqb}
 use lib.Bits.{bit_or, or_zero_l, or_add_and, and_le_r}
 use lib.Dec.{eqb, eqb-suc-zero}
+use Rattle.std.specs.List.{list_all, range_with_len}
 use Rattle.linear_model.specs.Tables.{every}
-use Rattle.linear_model.proofs.Tables.{every_more, every_fails_at}
+use Rattle.linear_model.proofs.Tables.{every_ext}
 
--- the invariant of a loop that leaves at the first place where a test fails: it holds at the first i of n
-pub record Passing (p : ℕ → Bool) (n i : ℕ) : Type 0 where
-  pub within : i ≤ n
-  pub holds : every i p ≡ true
+and_whole : (b : Bool) → b ≡ (b && true)
+and_whole true = refl
+and_whole false = refl
 
-module _ {p : ℕ → Bool} {n : ℕ} where
-  -- where the loop begins
-  pub passing_none : Passing p n 0
-  unfolding every
-  passing_none = record { within = zero-le; holds = refl }
+and_assoc : (a b c : Bool) → (a && b && c) ≡ (a && (b && c))
+and_assoc true b c = refl
+and_assoc false b c = refl
 
-  -- one place more
-  pub passing_more : {i : ℕ} → Passing p n i → i < n → p i ≡ true → Passing p n (i + 1)
-  passing_more {i} h l e = record { within = omega arith; holds = rw (every_more i p, h.holds, e) }
+-- the tests below n + 1 are that at 0 and n tests after it
+every_front : (n : ℕ) (p : ℕ → Bool) → every (suc n) p ≡ (p 0 && every n (λ k. p (k + 1)))
+unfolding every
+every_front zero p = and_whole (p 0)
+every_front (suc n) p =
+    let e : n + 1 ≡ suc n = omega arith in
+    rw (every_front n p, e) (and_assoc (p 0) (every n (λ k. p (k + 1))) (p (suc n)))
 
-  -- where it ends: the test fails nowhere
-  pub passing_all : {i : ℕ} → Passing p n i → n ≤ i → false ≡ not (every n p)
-  passing_all {i} h l = let e : i ≡ n = omega arith in sym (ap not (rw e at h.holds))
+-- an iterator's tests of n numbers from a on
+all_places : (n a : ℕ) (p : ℕ → Bool) → list_all p (range_with_len a n) ≡ every n (λ k. p (a + k))
+unfolding every
+all_places zero a p = refl
+all_places (suc n) a p =
+    ap (λ (b : Bool). p a && b) (all_places n (a + 1) p ∙ every_ext n _ _ (λ k l. ap p (omega arith)))
+    ∙ sym (every_front n (λ k. p (a + k)) ∙ ap (λ (k : ℕ). p k && every n (λ j. p (a + (j + 1)))) (omega arith))
 
-  -- where it is left: the test fails somewhere
-  pub passing_fails : {i : ℕ} → Passing p n i → i < n → p i ≡ false → true ≡ not (every n p)
-  passing_fails {i} h l e = ap not (every_fails_at n p i l e)
+-- and of those below n
+pub all_below : (n : ℕ) (p : ℕ → Bool) → list_all p (range_with_len 0 n) ≡ every n p
+all_below n p = all_places n 0 p ∙ every_ext n _ _ (λ k l. ap p (zero-add k))
 
 -- `x | y` is 0 where both are
 pub or-zero : (x y : ℕ) → eqb (bit_or x y) 0 ≡ (eqb x 0 && eqb y 0)

@@ -1,43 +1,68 @@
 -- The number of the call that lists tied rows, by what is judged one after the other.
 use mathlib.Core.Path.{◌≡◌, refl, sym, ap, ◌∙◌}
-use mathlib.Core.List.{List, []}
+use mathlib.Core.List.{List, [], ◌∷◌}
 use mathlib.Core.Bool.{Bool, true, false, cond, not}
+use Rattle.std.specs.Prelude.{Result, Ok, Err, IfOk}
 use Prim.Native.Nat.{ℕ, ◌*◌, ◌<◌, ◌≤◌}
 use native.Mathlib.Omega.{arith}
 use borrow.Author.Tests.{eq-eqb, ne_eqb, lt-ltb, le-ltb}
-use lib.Dec.{eqb}
+use lib.Dec.{eqb, lit<}
 use lib.ListN.{length, take}
 use lib.Seq.{take_at}
+use Rattle.linear_model.specs.Tables.{every}
 use Rattle.elimination_model.specs.Independence.{trit_at}
 use Rattle.elimination_model.specs.Tie.{entry_count}
 use Rattle.elimination_model.proofs.TieBytes.{tie_only, untied_empty, tie_bytes_some, tie_bytes_even}
-use Rattle.numbers.specs.Number.{first, at_front, output, reported}
+use Rattle.numbers.specs.Number.{◌when◌, first, at_front, output}
+use Rattle.numbers.proofs.Numbers.{first_before, first-after}
+use Rattle.numbers.specs.Refusals.{number_of, answer_number}
+use Rattle.numbers.specs.declared.refusal.Refusal.{Refusal}
+use Rattle.numbers.specs.declared.refusal.Refusal.TheVariants.{NotTied}
 use Rattle.numbers.proofs.Outputs.{output-refused, output-done}
+use Rattle.numbers.proofs.Refusals.{refused as refused_some}
 use Rattle.matrix_model.specs.Block.{Layout}
-use Rattle.matrix_model.specs.File.{file_size, row_plane_of, rows_of, bad_check_of, bad_layout_of, bad_trit_of, tied_rows_of}
+use Rattle.matrix_model.specs.File.{file_size, row_plane_of, rows_of, fit_row, faults_of, row_faults_of, bad_check_of, bad_layout_of, bad_trit_of, tied_rows_of}
 use Rattle.matrix_model.specs.Ties.{tie_of, tie_of_file, OnlyTieOfFile, tie_size, tie_number_of}
-use Rattle.matrix_model.specs.Internal.Rows.{zero_row_of, rows_number, form_number_of, Listed}
-use Rattle.matrix_model.proofs.Internal.TiedRows.{number_by}
+use Rattle.matrix_model.specs.Internal.Rows.{rows_answer, block_number_of, form_number_of, Listed}
+use Rattle.matrix_model.proofs.Internal.RowNumbers.{accepted, refused}
 
--- ---- unfit trits
+-- ---- the form of a file
 
--- the tests of each row give 10 just where a trit is unfit
-pub rows_unfit : (layout : Layout) (rows : List ℕ) → rows_number layout layout.row_count rows ≡ 10 → bad_trit_of layout rows ≡ true
-unfolding first rows_number bad_trit_of zero_row_of
-rows_unfit layout rows e = by (bad_trit_of layout rows) (zero_row_of layout rows) e
+-- by two tests of a file's blocks, and else x
+abbrev blocks_by : Bool → Bool → ℕ → ℕ
+blocks_by a b x = cond a 8 (cond b 9 x)
+
+module _ (layout : Layout) (file : List ℕ) (h : block_number_of layout file ≡ 0) where
+  -- where its blocks are as they must be, its rows decide
+  form_rows : form_number_of layout file ≡ cond (bad_trit_of layout (rows_of layout file)) 10 0
+  unfolding first
+  form_rows = by (bad_check_of layout file) (bad_layout_of layout file) (bad_trit_of layout (rows_of layout file)) h
+    where
+      by : (a b c : Bool) → blocks_by a b 0 ≡ 0 → blocks_by a b (cond c 10 0) ≡ cond c 10 0
+      by true b c e = absurd (omega arith)
+      by false true c e = absurd (omega arith)
+      by false false c e = refl
+
+  pub form_unfit : {refusal : Refusal} → rows_answer layout layout.row_count (rows_of layout file) ≡ Err refusal → number_of refusal ≡ form_number_of layout file
+  unfolding rows_answer bad_trit_of
+  form_unfit {refusal} e =
+      let r = refused (every layout.row_count (fit_row layout (rows_of layout file))) _ refusal e in
+      rw (form_rows, r.0, ← r.1)
+
+  pub form_fit : {zero : Bool} → rows_answer layout layout.row_count (rows_of layout file) ≡ Ok zero → form_number_of layout file ≡ 0
+  unfolding rows_answer bad_trit_of
+  form_fit {zero} e = rw (form_rows, (accepted (every layout.row_count (fit_row layout (rows_of layout file))) _ zero e).0)
+
+-- and where they are not, they are refused for that
+pub form_blocks : (layout : Layout) (file : List ℕ) (number : ℕ) → number ≡ block_number_of layout file → (number ≡ 0 → ⊥) → number ≡ form_number_of layout file
+unfolding first
+form_blocks layout file number e z =
+    e ∙ by (bad_check_of layout file) (bad_layout_of layout file) (bad_trit_of layout (rows_of layout file)) (λ q. z (e ∙ q))
   where
-    by : (unfit zero : Bool) → number_by unfit zero ≡ 10 → unfit ≡ true
-    by true zero e = refl
-    by false true e = absurd (omega arith)
-    by false false e = absurd (omega arith)
-
-pub rows_fit : (layout : Layout) (rows : List ℕ) → (rows_number layout layout.row_count rows ≡ 10 → ⊥) → bad_trit_of layout rows ≡ false
-unfolding first rows_number bad_trit_of zero_row_of
-rows_fit layout rows h = by (bad_trit_of layout rows) (zero_row_of layout rows) h
-  where
-    by : (unfit zero : Bool) → (number_by unfit zero ≡ 10 → ⊥) → unfit ≡ false
-    by true zero h = absurd (h refl)
-    by false zero h = refl
+    by : (a b c : Bool) → (blocks_by a b 0 ≡ 0 → ⊥) → blocks_by a b 0 ≡ blocks_by a b (cond c 10 0)
+    by true b c z = refl
+    by false true c z = refl
+    by false false c z = absurd (z refl)
 
 -- ---- the list of a file
 
@@ -62,7 +87,7 @@ module _ (layout : Layout) (file : List ℕ) where
 
 -- by three tests of a file's form, and else x
 abbrev form_by : Bool → Bool → Bool → ℕ → ℕ
-form_by a b c x = cond a 8 (cond b 9 (cond c 10 x))
+form_by a b c x = blocks_by a b (cond c 10 x)
 
 module _ (layout : Layout) (file : List ℕ) (n : ℕ) where
   -- where the slice is too short
@@ -110,36 +135,42 @@ module _ (layout : Layout) (file : List ℕ) (n : ℕ) where
 -- ---- the answer
 
 -- what is returned, and the slice afterwards
-abbrev Answered : Layout → List ℕ → List ℕ → ℕ → ℕ → List ℕ → Type 0
-Answered layout file old result count new =
-    (result ≡ tie_number_of layout file (length old)) × ((count ≡ reported result (entry_count (tie_of_file layout file)))
-    × ((new ≡ output result (tie_of_file layout file) old) × (result ≡ 0 → OnlyTieOfFile layout file (take (2 * count) new))))
+abbrev pub Answered : Layout → List ℕ → List ℕ → Result ℕ Refusal → List ℕ → Type 0
+Answered layout file old answer new =
+    record {
+      result : answer_number answer ≡ tie_number_of layout file (length old);
+      count : IfOk answer (λ count. count ≡ entry_count (tie_of_file layout file));
+      output : new ≡ output (answer_number answer) (tie_of_file layout file) old;
+      only_tie : IfOk answer (λ count. OnlyTieOfFile layout file (take (2 * count) new));
+    }
 
 module _ (layout : Layout) (file old : List ℕ) where
-  -- a refusal reports 0 and leaves the slice
-  pub tie_refused : {number result count : ℕ} {new : List ℕ} → (result ≡ number) × (count ≡ 0) → number ≡ tie_number_of layout file (length old)
-      → (number ≡ 0 → ⊥) → new ≡ old → Answered layout file old result count new
-  unfolding reported
-  tie_refused {result = result} r e z same =
-      let h : result ≡ 0 → ⊥ = λ q. z (sym r.0 ∙ q) in
-      (r.0 ∙ e, (r.1 ∙ rw (ne_eqb result 0 h), (same ∙ output-refused result (tie_of_file layout file) old h, λ q. absurd (h q))))
+  -- a refusal leaves the slice
+  pub tie_refused : (refusal : Refusal) {new : List ℕ} → number_of refusal ≡ tie_number_of layout file (length old) → new ≡ old
+      → Answered layout file old (Err refusal) new
+  tie_refused refusal e same =
+      record {
+        result = e;
+        count = tt;
+        output = same ∙ output-refused (number_of refusal) (tie_of_file layout file) old (refused_some refusal refl);
+        only_tie = tt;
+      }
 
   -- after a list is written
   module _ (e : length file ≡ file_size layout) (h : tie_size layout ≤ length old) (p : form_number_of layout file ≡ 0) {new : List ℕ} {count : ℕ}
       (w : Listed layout file old new count) where
     -- an empty one: the rows are not tied
-    pub none_listed : {result rows : ℕ} → (result ≡ 16) × (rows ≡ 0) → count ≡ 0 → Answered layout file old result rows new
-    none_listed {result} {rows} r z = go (tied_rows_of layout (rows_of layout file)) refl
+    pub none_listed : count ≡ 0 → Answered layout file old (Err NotTied) new
+    none_listed z = go (tied_rows_of layout (rows_of layout file)) refl
       where
-        go : (b : Bool) → tied_rows_of layout (rows_of layout file) ≡ b → Answered layout file old result rows new
+        go : (b : Bool) → tied_rows_of layout (rows_of layout file) ≡ b → Answered layout file old (Err NotTied) new
         go true t = absurd (omega (arith, w.0, tied_some layout file t))
         go false t =
-            tie_refused r (sym (listed_tie layout file (length old) e h p ∙ ap (λ (b : Bool). cond b 0 16) t)) (λ q. omega arith)
+            tie_refused NotTied (sym (listed_tie layout file (length old) e h p ∙ ap (λ (b : Bool). cond b 0 16) t))
             (w.1 ∙ ap (λ (list : List ℕ). at_front list old) (untied_none layout file t))
 
     -- another: they are, and it is the only such list
-    pub some_listed : (count ≡ 0 → ⊥) → Answered layout file old 0 count new
-    unfolding reported
+    pub some_listed : (count ≡ 0 → ⊥) → Answered layout file old (Ok count) new
     some_listed z = go (tied_rows_of layout (rows_of layout file)) refl
       where
         front : take (2 * count) new ≡ tie_of_file layout file
@@ -147,9 +178,26 @@ module _ (layout : Layout) (file old : List ℕ) where
             ap (take (2 * count)) w.1
             ∙ take_at (tie_of_file layout file) _ (2 * count) (sym (tie_even layout file) ∙ ap (λ (m : ℕ). 2 * m) (sym w.0))
 
-        go : (b : Bool) → tied_rows_of layout (rows_of layout file) ≡ b → Answered layout file old 0 count new
-        go true t = (
-          sym (listed_tie layout file (length old) e h p ∙ ap (λ (b : Bool). cond b 0 16) t),
-          (w.0, (w.1 ∙ output-done 0 (tie_of_file layout file) old refl, λ q. rw front (only_tie layout file t))),
-        )
+        go : (b : Bool) → tied_rows_of layout (rows_of layout file) ≡ b → Answered layout file old (Ok count) new
+        go true t =
+            record {
+              result = sym (listed_tie layout file (length old) e h p ∙ ap (λ (b : Bool). cond b 0 16) t);
+              count = w.0;
+              output = w.1 ∙ output-done 0 (tie_of_file layout file) old refl;
+              only_tie = rw front (only_tie layout file t);
+            }
         go false t = absurd (z (w.0 ∙ ap entry_count (untied_none layout file t)))
+
+-- ---- a file of the right length
+
+module _ (layout : Layout) (file : List ℕ) where
+  -- its blocks are judged before its rows
+  pub faulty_blocks : {number : ℕ} → number ≡ block_number_of layout file → (number ≡ 0 → ⊥) → number ≡ first (faults_of layout file)
+  unfolding faults_of row_faults_of
+  faulty_blocks e z =
+      e ∙ sym (first_before ((8 when bad_check_of layout file) ∷ (9 when bad_layout_of layout file) ∷ []) (row_faults_of layout (rows_of layout file)) (λ q. z (e ∙ q)))
+
+  pub faulty_rows : block_number_of layout file ≡ 0 → first (row_faults_of layout (rows_of layout file)) ≡ first (faults_of layout file)
+  unfolding faults_of row_faults_of
+  faulty_rows e =
+      sym (first-after ((8 when bad_check_of layout file) ∷ (9 when bad_layout_of layout file) ∷ []) (row_faults_of layout (rows_of layout file)) (lit< tt, (lit< tt, tt)) e)

@@ -2,12 +2,14 @@
 use mathlib.Core.Path.{◌≡◌, refl, sym, ap, ◌∙◌}
 use mathlib.Core.List.{List}
 use mathlib.Core.Bool.{Bool, true, false, cond, not}
+use Rattle.std.specs.Prelude.{Ok, Err}
 use Prim.Native.Nat.{ℕ, ◌+◌, ◌-◌, ◌*◌, ◌/◌, ◌%◌, ◌<◌, ◌≤◌}
 use native.Mathlib.Nat.{mul-le-mul_right}
 use native.Mathlib.Omega.{arith}
 use borrow.Author.Tests.{not-false}
 use lib.Dec.{T, leb, lit≤}
 use lib.ListN.{drop}
+use Rattle.linear_model.specs.Tables.{every}
 use Rattle.linear_model.specs.Trits.{trit, zero_trits}
 use Rattle.linear_model.specs.Products.{rows_from}
 use Rattle.elimination_model.specs.Independence.{tied, trit_at}
@@ -18,13 +20,15 @@ use Rattle.elimination_model.proofs.Internal.Loading.{diagonal_same, loaded_tie}
 use Rattle.elimination_model.proofs.Internal.Writing.{rows_join, rows_map}
 use Rattle.elimination_model.proofs.Packed.{zero_row_tied}
 use Rattle.numbers.specs.Number.{first}
+use Rattle.numbers.specs.Refusals.{number_of}
+use Rattle.numbers.specs.declared.refusal.Refusal.{Refusal}
 use Rattle.numbers.proofs.Numbers.{holds, is_false}
 use Rattle.matrix_model.specs.Block.{Layout}
-use Rattle.matrix_model.specs.File.{Fits, row_plane_of, bad_trit_of, tied_rows_of, row_faults_of, layout_of}
+use Rattle.matrix_model.specs.File.{Fits, fit_row, row_plane_of, bad_trit_of, tied_rows_of, row_faults_of, layout_of}
 use Rattle.matrix_model.specs.Ties.{tie_of}
-use Rattle.matrix_model.specs.Internal.Rows.{nonzero_row, zero_row_of, rows_number, plane_words, carrying_words, Eliminable, CarryingRoom, tied_in_columns}
+use Rattle.matrix_model.specs.Internal.Rows.{nonzero_row, zero_row_of, rows_answer, plane_words, carrying_words, Eliminable, CarryingRoom, tied_in_columns}
 use Rattle.matrix_model.proofs.Internal.Rows.{trit-take}
-use Rattle.matrix_model.proofs.Internal.RowNumbers.{Among, same_row}
+use Rattle.matrix_model.proofs.Internal.RowNumbers.{Among, same_row, accepted, refused}
 
 -- rows with a zero row among them are tied
 zero_rows-tied : (layout : Layout) (rows : List ℕ) → zero_row_of layout rows ≡ true → tied_rows_of layout rows ≡ true
@@ -34,35 +38,38 @@ zero_rows-tied layout rows e =
     let f = fails_somewhere layout.row_count (nonzero_row layout rows) (holds _ e) in
     zero_row_tied m layout.row_count rows f.0 f.1 (not-false (zero_trits m 0 (rows_from m rows f.0)) (is_false _ f.2))
 
--- the number by two tests: of trits, and of a zero row or of tied rows
-abbrev pub number_by : Bool → Bool → ℕ
+-- the number by two tests: of trits, and of tied rows
+abbrev number_by : Bool → Bool → ℕ
 number_by unfit tied = cond unfit 10 (cond tied 12 0)
 
--- a number of the tests of each row is that of the rows: a zero row has tied rows'
-number_each : (u z t : Bool) → (z ≡ true → t ≡ true) → (number_by u z ≡ 0 → ⊥) → number_by u z ≡ number_by u t
-number_each true z t h n = refl
-number_each false true t h n = ap (λ (b : Bool). cond b 12 0) (sym (h refl))
-number_each false false t h n = absurd (n refl)
+module _ (layout : Layout) (rows : List ℕ) where
+  -- where the tests of each row refuse, the rows are refused
+  pub judged_unfit : {refusal : Refusal} → rows_answer layout layout.row_count rows ≡ Err refusal → number_of refusal ≡ first (row_faults_of layout rows)
+  unfolding first row_faults_of bad_trit_of rows_answer
+  judged_unfit {refusal} e =
+      let h = refused (every layout.row_count (fit_row layout rows)) _ refusal e in
+      rw (h.0, ← h.1)
 
--- with neither an unfit trit nor a zero row, ties alone count
-number_together : (u z t : Bool) → number_by u z ≡ 0 → cond (not t) 0 12 ≡ number_by u t
-number_together true z t e = absurd (omega arith)
-number_together false z true e = refl
-number_together false z false e = refl
+  -- where they accept, a zero row is a case of tied rows
+  module _ {zero : Bool} (e : rows_answer layout layout.row_count rows ≡ Ok zero) where
+    fit : every layout.row_count (fit_row layout rows) ≡ true
+    unfolding rows_answer
+    fit = (accepted (every layout.row_count (fit_row layout rows)) _ zero e).0
 
-module _ (layout : Layout) (rows : List ℕ) {number : ℕ} (e : number ≡ rows_number layout layout.row_count rows) where
-  -- where the tests of each row give a number, it is that of the rows
-  pub judged_each : (number ≡ 0 → ⊥) → number ≡ first (row_faults_of layout rows)
-  unfolding first row_faults_of bad_trit_of zero_row_of rows_number
-  judged_each n =
-      e ∙ number_each (bad_trit_of layout rows) (zero_row_of layout rows) (tied_rows_of layout rows) (zero_rows-tied layout rows) (λ z. n (e ∙ z))
+    pub judged_zero : zero ≡ true → 12 ≡ first (row_faults_of layout rows)
+    unfolding first row_faults_of bad_trit_of rows_answer zero_row_of
+    judged_zero z =
+        let h = accepted (every layout.row_count (fit_row layout rows)) _ zero e in
+        rw (fit, zero_rows-tied layout rows (h.1 ∙ z))
 
-  -- where they give none, the test of all rows together decides
-  pub judged_together : (independent : Bool) → number ≡ 0 → independent ≡ not (tied_rows_of layout rows) → cond independent 0 12 ≡ first (row_faults_of layout rows)
-  unfolding first row_faults_of bad_trit_of zero_row_of rows_number
-  judged_together b z h =
-      ap (λ (t : Bool). cond t 0 12) h
-      ∙ number_together (bad_trit_of layout rows) (zero_row_of layout rows) (tied_rows_of layout rows) (sym e ∙ z)
+    -- and else the test of all rows together decides
+    pub judged_together : {independent : Bool} → independent ≡ not (tied_rows_of layout rows) → cond independent 0 12 ≡ first (row_faults_of layout rows)
+    unfolding first row_faults_of bad_trit_of
+    judged_together h = rw (fit, h) (by (tied_rows_of layout rows))
+      where
+        by : (tied : Bool) → ◌≡◌ {A = ℕ} (cond (not tied) 0 12) (cond tied 12 0)
+        by true = refl
+        by false = refl
 
 -- the trits of a part are those of the rows that it is
 among_trits : {layout : Layout} → Fits layout → {set part : List ℕ} {i k : ℕ} → Among layout set i k part

@@ -15,7 +15,7 @@ small c =
 pub add_entry_by_mask-requires : goal.add_entry_by_mask-requires
 add_entry_by_mask-requires c =
     let one = c.if-w-eq1.true in
-    (rw one at c.requires.0, rw one at c.requires.1, c.requires.3)
+    (rw one at c.requires.0, rw one at c.requires.1, c.args.column.in_word)
 
 pub returns-then-w-eq1 : goal.returns-then-w-eq1
 returns-then-w-eq1 c =

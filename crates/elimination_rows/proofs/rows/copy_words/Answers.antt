@@ -5,13 +5,13 @@ use Rattle.linear_model.proofs.Internal.Overwriting.{overwritten_none, overwritt
 use Rattle.elimination_rows.proofs.rows.copy_words.Goals as goal
 
 pub loop-m-init : goal.loop-m-init
-loop-m-init c = (omega arith, overwritten_none)
+loop-m-init c = overwritten_none
 
 pub loop-m-preserved : goal.loop-m-preserved
 loop-m-preserved c =
-    (omega arith, overwritten_more (c.args.e + c.loop-m.m) c.loop-m.invariant.1 refl (omega arith) refl)
+    overwritten_more (c.args.e + c.loop-m.m) c.loop-m.invariant refl (omega arith) refl
 
 pub returns : goal.returns
 returns c =
     let e : c.loop-m.m ≡ c.args.n = omega arith in
-    rw e at c.loop-m.invariant.1
+    rw e at c.loop-m.invariant

@@ -1,18 +1,7 @@
 -- `elimination_ties::ties::carried_digit` meets its contract.
 use mathlib.Core.Path.{◌∙◌}
-use native.Mathlib.Omega.{arith}
 use Rattle.elimination_ties.proofs.Entries.{carried_column, carried_small}
 use Rattle.elimination_ties.proofs.ties.carried_digit.Goals as goal
-
-pub overflow_mul-w-2 : goal.overflow_mul-w-2
-overflow_mul-w-2 c = omega (arith, c.requires.0.row.long)
-
-pub overflow_add-f : goal.overflow_add-f
-overflow_add-f c = omega (arith, c.requires.0.row.long, c.requires.0.room)
-
-pub digit_in-requires : goal.digit_in-requires
-digit_in-requires c =
-    (c.requires.0.row.long, omega (arith, c.requires.0.room), omega arith)
 
 pub returns : goal.returns
 returns c =

@@ -8,24 +8,18 @@ use Rattle.elimination_model.proofs.Internal.Writing.{next-or_before}
 use Rattle.elimination_ties.proofs.Entries.{leading_found}
 use Rattle.elimination_ties.proofs.ties.leading_digit.Goals as goal
 
-pub loop-k-init : goal.loop-k-init
-loop-k-init c = (omega arith, λ i l. absurd (omega arith))
-
-pub carried_digit-d-requires : goal.carried_digit-d-requires
-carried_digit-d-requires c = (c.requires.0, omega arith)
-
 pub returns-then-d-ne0 : goal.returns-then-d-ne0
 returns-then-d-ne0 c =
     let a = c.args in
     let e = c.carried_digit-d.ensures in
     e.0
     ∙ leading_found (suc a.r) c.loop-k.k (carried_at a.w a.f a.words.now a.r) (omega arith)
-    (λ z. c.if-d-ne0.true (sym (mod-eq_of_lt e.1) ∙ ap (λ (d : ℕ). d % 3) e.0 ∙ z)) c.loop-k.invariant.1
+    (λ z. c.if-d-ne0.true (sym (mod-eq_of_lt e.1) ∙ ap (λ (d : ℕ). d % 3) e.0 ∙ z)) c.loop-k.invariant
 
 pub loop-k-preserved : goal.loop-k-preserved
 loop-k-preserved c =
     let a = c.args in
-    (omega arith, λ i h. go c.loop-k.k c.loop-k.invariant.1 (sym c.carried_digit-d.ensures.0 ∙ c.if-d-ne0.false) i h)
+    (λ i h. go c.loop-k.k c.loop-k.invariant (sym c.carried_digit-d.ensures.0 ∙ c.if-d-ne0.false) i h)
   where
     go : {d : ℕ → ℕ} (k : ℕ) → ((i : ℕ) → i < k → d i ≡ 0) → d k ≡ 0 → (i : ℕ) → i < k + 1 → d i ≡ 0
     go {d} k z e i h = cases (next-or_before i k h)
@@ -42,4 +36,4 @@ returns c =
     let a = c.args in
     c.carried_digit.ensures.0
     ∙ leading_found (suc a.r) a.r (carried_at a.w a.f a.words.now a.r) (le_refl (suc a.r)) c.requires.1
-    (λ i h. c.loop-k.invariant.1 i (omega arith))
+    (λ i h. c.loop-k.invariant i (omega arith))

@@ -14,15 +14,12 @@ room : (c : Then-x-ne0) → (2 * c.loop-k.n + 2 ≤ length c.loop-k.out)
 room c =
     let a = c.args in
     omega
-    (arith, c.loop-k.invariant.1, entry_room (multiplied a.w a.f a.r a.lead a.words.now) c.loop-k.k c.loop-k.n a.out.now c.loop-k.out c.loop-k.invariant.2 a.r (omega arith) c.requires.3)
+    (arith, c.loop-k.invariant.0, entry_room (multiplied a.w a.f a.r a.lead a.words.now) c.loop-k.k c.loop-k.n a.out.now c.loop-k.out c.loop-k.invariant.1 a.r (omega arith) c.requires.3)
 
 pub loop-k-init : goal.loop-k-init
 loop-k-init c =
     let a = c.args in
-    (omega arith, refl, written_none (multiplied a.w a.f a.r a.lead a.words.now) a.out.now)
-
-pub carried_digit-requires : goal.carried_digit-requires
-carried_digit-requires c = (c.requires.0, omega arith)
+    (refl, written_none (multiplied a.w a.f a.r a.lead a.words.now) a.out.now)
 
 pub overflow_mul-x : goal.overflow_mul-x
 overflow_mul-x c =
@@ -55,13 +52,13 @@ loop-k-preserved c =
     let d = multiplied a.w a.f a.r a.lead a.words.now in
     let x = ap (λ (y : ℕ). a.lead * y % 3) c.carried_digit.ensures.0 in
     let inv = c.loop-k.invariant in
-    let more = entry_room d c.loop-k.k c.loop-k.n a.out.now c.loop-k.out inv.2 a.r (omega arith) c.requires.3 in
+    let more = entry_room d c.loop-k.k c.loop-k.n a.out.now c.loop-k.out inv.1 a.r (omega arith) c.requires.3 in
     let next : (length c.if-x-ne0.out ≡ length a.out.now) × Written d (c.loop-k.k + 1) a.out.now c.if-x-ne0.n c.if-x-ne0.out =
     elim c.if-x-ne0.branch [
-      | then-x-ne0 w ↦ kept d (c.loop-k.k + 1) a.out.now w.out-is w.n-is (simp length-set inv.1, entries_next d c.loop-k.k c.loop-k.n a.out.now c.loop-k.out inv.2 _ x (positive w.if-x-ne0.true) more)
-      | else-x-ne0 w ↦ kept d (c.loop-k.k + 1) a.out.now w.out-is w.n-is (inv.1, entries_same d c.loop-k.k c.loop-k.n a.out.now c.loop-k.out inv.2 _ x w.if-x-ne0.false)
+      | then-x-ne0 w ↦ kept d (c.loop-k.k + 1) a.out.now w.out-is w.n-is (simp length-set inv.0, entries_next d c.loop-k.k c.loop-k.n a.out.now c.loop-k.out inv.1 _ x (positive w.if-x-ne0.true) more)
+      | else-x-ne0 w ↦ kept d (c.loop-k.k + 1) a.out.now w.out-is w.n-is (inv.0, entries_same d c.loop-k.k c.loop-k.n a.out.now c.loop-k.out inv.1 _ x w.if-x-ne0.false)
     ] in
-    (omega arith, next.0, next.1)
+    next
   where
     positive : {x : ℕ} → (x ≡ 0 → ⊥) → 0 < x
     positive {x} h = omega arith
@@ -74,5 +71,5 @@ pub returns : goal.returns
 returns c =
     let a = c.args in
     let e : c.loop-k.k ≡ suc a.r = omega arith in
-    let w = rw e at c.loop-k.invariant.2 in
+    let w = rw e at c.loop-k.invariant.1 in
     record { count = w.0; output = w.1 }

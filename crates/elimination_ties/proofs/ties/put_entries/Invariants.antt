@@ -1,7 +1,7 @@
 -- `elimination_ties::ties::put_entries` meets its contract. The invariant of its loop: the entries of the first k digits are written.
 use mathlib.Core.Path.{◌≡◌}
 use mathlib.Core.List.{List}
-use Prim.Native.Nat.{ℕ, suc, ◌-◌, ◌*◌, ◌%◌, ◌≤◌}
+use Prim.Native.Nat.{ℕ, ◌*◌, ◌%◌}
 use lib.ListN.{length}
 use Rattle.elimination_model.specs.Internal.Words.{carried_at}
 use Rattle.elimination_ties.proofs.Entries.{Written}
@@ -13,7 +13,4 @@ multiplied w f r lead words k = lead * carried_at w f words r k % 3
 
 abbrev pub invariant-loop-k : goal.invariant-loop-k
 invariant-loop-k l =
-    (l.k ≤ suc l.r) × (length l.out ≡ length l.initial.out) × Written (multiplied l.w l.f l.r l.lead l.words) l.k l.initial.out l.n l.out
-
-abbrev pub decreases-loop-k : goal.decreases-loop-k
-decreases-loop-k l = suc l.r - l.k
+    (length l.out ≡ length l.initial.out) × Written (multiplied l.w l.f l.r l.lead l.words) l.k l.initial.out l.n l.out

@@ -1,12 +1,7 @@
 -- `linear_bits::bits::add_bytes_to` meets its contract. The invariant of its loop: the first i bytes are those of the sum, and the others are as they were.
-use Prim.Native.Nat.{◌-◌}
-use lib.ListN.{length}
 use Rattle.linear_model.specs.Bits.{sum_bit, byte_of}
 use Rattle.linear_model.proofs.Filling.{Filling}
 use Rattle.linear_bits.proofs.bits.add_bytes_to.Given as goal
 
 abbrev pub invariant-loop-i : goal.invariant-loop-i
 invariant-loop-i l = Filling (byte_of (sum_bit l.initial.out l.a)) l.i l.initial.out l.out
-
-abbrev pub decreases-loop-i : goal.decreases-loop-i
-decreases-loop-i l = length l.initial.out - l.i

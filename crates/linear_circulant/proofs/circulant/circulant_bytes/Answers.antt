@@ -10,8 +10,5 @@ loop-i-init c = filling_none
 pub loop-i-preserved : goal.loop-i-preserved
 loop-i-preserved c = filling_more c.loop-i.invariant (omega arith) c.circulant_rows.ensures
 
-pub shape_of-out : goal.shape_of-out
-shape_of-out c = c.loop-i.invariant.long
-
 pub returns : goal.returns
 returns c = unfold bit_product pack in filling_all c.loop-i.invariant (omega arith)

@@ -1,4 +1,3 @@
-use mathlib.Core.Path.{◌≡◌}
 use Prim.Native.Nat.{◌*◌}
 use native.Mathlib.Omega.{arith}
 use Rattle.linear_model.specs.Tables.{from}
@@ -14,9 +13,4 @@ pub loop-q-preserved : goal.loop-q-preserved
 loop-q-preserved c =
     let a = c.args in
     let f = from (8 * a.p) (bit_row a.n (circulant a.n a.key.now) a.x.now) in
-    (omega arith, or_more 8 c.loop-q.q _ _ f c.loop-q-test.true (λ i. omega arith) c.loop-q.invariant.1 c.row_bit.ensures)
-
-pub returns : goal.returns
-returns c =
-    let e : c.loop-q.q ≡ 8 = omega arith in
-    rw e at c.loop-q.invariant.1
+    or_more 8 c.loop-q.q _ _ f c.loop-q-test.true (λ i. omega arith) c.loop-q.invariant c.row_bit.ensures

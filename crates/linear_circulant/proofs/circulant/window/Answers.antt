@@ -14,5 +14,5 @@ returns-then-q-eq0 c =
 pub returns : goal.returns
 returns c =
     let a = c.args in
-    window_at a.s.now a.i a.q _ _ (omega arith) c.word_at-low.ensures (c.wide.ensures ∙ c.byte_at.ensures)
-    (omega (arith, c.byte_at.type_inv, c.wide.ensures))
+    window_at a.s.now a.i a.q _ _ (omega arith) c.word_at-low.ensures (c.from.ensures ∙ c.byte_at.ensures)
+    (omega (arith, c.byte_at.type_inv, c.from.ensures))

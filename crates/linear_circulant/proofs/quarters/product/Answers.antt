@@ -1,7 +1,6 @@
-use mathlib.Core.Path.{◌≡◌, ap, ◌∙◌}
-use Prim.Native.Nat.{ℕ, ◌+◌, ◌/◌, ◌<◌, ◌^◌}
+use mathlib.Core.Path.{◌≡◌, refl, ap, ◌∙◌}
+use Prim.Native.Nat.{ℕ, ◌+◌, ◌<◌, ◌^◌}
 use native.Mathlib.Omega.{arith}
-use lib.Pow.{shr-shr}
 use Rattle.linear_model.specs.Tables.{from}
 use Rattle.linear_model.specs.Bits.{from_bits}
 use Rattle.linear_model.proofs.Internal.Quarters.{round_bit, quarter_none, quarter_more, round_none, round_more, quarters_product}
@@ -12,7 +11,7 @@ loop-q-init c =
     let a = c.args in
     let h : a.label < 2 ^ 64 = omega arith in
     let none = quarter_none a.key a.label in
-    (omega arith, omega arith, round_none a.label h, none 0, none 16, none 32, none 48)
+    (round_none a.label h, none 0, none 16, none 32, none 48)
 
 pub loop-q-preserved : goal.loop-q-preserved
 loop-q-preserved c =
@@ -21,13 +20,11 @@ loop-q-preserved c =
     let a = c.args in
     let i = l.invariant in
     let o : l.q ≡ l.q + 0 = omega arith in (
-      omega arith,
-      ap (λ (n : ℕ). n / 2 ^ 1) i.1 ∙ shr-shr a.key l.q 1,
-      c.rotated-x.ensures ∙ round_more a.label l.q 1 (omega arith) i.2,
-      quarter_more a.key a.label 0 l.q m.result i.1 i.3 m.ensures (i.2 ∙ ap (λ (n : ℕ). from_bits 64 (from n (round_bit a.label))) o),
-      quarter_more a.key a.label 16 l.q m.result i.1 i.4 m.ensures (c.rotated.ensures ∙ round_more a.label l.q 16 (omega arith) i.2),
-      quarter_more a.key a.label 32 l.q m.result i.1 i.5 m.ensures (c.rotated-in-loop-q.ensures ∙ round_more a.label l.q 32 (omega arith) i.2),
-      quarter_more a.key a.label 48 l.q m.result i.1 i.6 m.ensures (c.rotated-in-loop-q-2.ensures ∙ round_more a.label l.q 48 (omega arith) i.2),
+      c.rotate_right-x.ensures ∙ round_more a.label l.q 1 (omega arith) i.0,
+      quarter_more a.key a.label 0 l.q m.result refl i.1 m.ensures (i.0 ∙ ap (λ (n : ℕ). from_bits 64 (from n (round_bit a.label))) o),
+      quarter_more a.key a.label 16 l.q m.result refl i.2 m.ensures (c.rotate_right.ensures ∙ round_more a.label l.q 16 (omega arith) i.0),
+      quarter_more a.key a.label 32 l.q m.result refl i.3 m.ensures (c.rotate_right-in-loop-q.ensures ∙ round_more a.label l.q 32 (omega arith) i.0),
+      quarter_more a.key a.label 48 l.q m.result refl i.4 m.ensures (c.rotate_right-in-loop-q-2.ensures ∙ round_more a.label l.q 48 (omega arith) i.0),
     )
 
 pub returns : goal.returns
@@ -35,5 +32,5 @@ returns c =
     let l = c.loop-q in
     let a = c.args in
     let e : l.q ≡ 16 = omega arith in
-    quarters_product a.key a.label (rw e at l.invariant.3) (rw e at l.invariant.4) (rw e at l.invariant.5) (rw e at l.invariant.6)
+    quarters_product a.key a.label (rw e at l.invariant.1) (rw e at l.invariant.2) (rw e at l.invariant.3) (rw e at l.invariant.4)
     c.quarters_added.ensures c.quarters_added-2.ensures c.quarters_added-3.ensures c.quarters_added-4.ensures

@@ -1,4 +1,4 @@
-use mathlib.Core.Path.{◌≡◌, ap, ap₂, ◌∙◌}
+use mathlib.Core.Path.{◌≡◌, ap₂, ◌∙◌}
 use Prim.Native.Nat.{ℕ, ◌+◌, ◌%◌, ◌<◌}
 use native.Mathlib.Omega.{arith}
 use Rattle.linear_model.specs.Tables.{sum}
@@ -28,12 +28,6 @@ overflow_add-acc c = omega (arith, small _ _ _ _ _ c.digit.ensures c.digit-in-lo
 pub loop-k-preserved : goal.loop-k-preserved
 loop-k-preserved c =
     let a = c.args in (
-      omega arith,
       omega (arith, small _ _ _ _ _ c.digit.ensures c.digit-in-loop-k.ensures c.product-acc.ensures),
-      more a.x a.u a.y a.w c.loop-k.k c.digit.ensures c.digit-in-loop-k.ensures c.product-acc.ensures c.loop-k.invariant.2,
+      more a.x a.u a.y a.w c.loop-k.k c.digit.ensures c.digit-in-loop-k.ensures c.product-acc.ensures c.loop-k.invariant.1,
     )
-
-pub returns : goal.returns
-returns c =
-    let e : c.loop-k.k ≡ 8 = omega arith in
-    ap (λ (s : ℕ). s % 3) (rw e at c.loop-k.invariant.2)

@@ -1,5 +1,4 @@
 use mathlib.Core.Path.{◌≡◌, ap, ◌∙◌}
-use mathlib.Core.List.{List}
 use Prim.Native.Nat.{ℕ, ◌+◌, ◌/◌, ◌%◌}
 use native.Mathlib.Nat.{add_comm}
 use native.Mathlib.Omega.{arith}
@@ -10,7 +9,7 @@ use Rattle.linear_model.specs.Trits.{low, high}
 use Rattle.linear_model.specs.Products.{row_digit}
 use Rattle.linear_model.proofs.NumberBits.{or_more}
 use Rattle.linear_model.proofs.Linearity.{digit-below}
-use Rattle.linear_model.proofs.Internal.Matrix.{row_is}
+use Rattle.linear_digits.proofs.Cuts.{row_after}
 use Rattle.linear_digits.proofs.partial.eight_rows.Goals as goal
 
 pub loop-q-init : goal.loop-q-init
@@ -24,18 +23,14 @@ loop-q-preserved c =
     let q = c.loop-q.q in
     let e : c.first_row-d.result ≡ f (0 + q) =
     c.first_row-d.ensures
-    ∙ ap (λ (r : List ℕ). below c.loop-q.left (row_digit m r a.v.now) 0) c.skip.ensures
-    ∙ row_is m a.t a.rows.now a.v.now q c.loop-q.at c.loop-q.left 0 c.loop-q.invariant.1 c.loop-q.invariant.2
+    ∙ row_after m a.t a.rows.now a.v.now q _ 0 c.skip-row.ensures (omega arith) (omega arith)
     ∙ ap f (add_comm q 0)
     in (
-      omega arith,
-      omega arith,
-      omega arith,
-      or_more 8 q _ _ (from 0 (low f)) (omega arith) (λ i. omega arith) c.loop-q.invariant.3 (ap (λ (d : ℕ). d % 2) e),
-      or_more 8 q _ _ (from 0 (high f)) (omega arith) (λ i. omega (arith, digit-below a.t m a.rows.now a.v.now (0 + i))) c.loop-q.invariant.4 (ap (λ (d : ℕ). d / 2) e),
+      or_more 8 q _ _ (from 0 (low f)) (omega arith) (λ i. omega arith) c.loop-q.invariant.0 (ap (λ (d : ℕ). d % 2) e),
+      or_more 8 q _ _ (from 0 (high f)) (omega arith) (λ i. omega (arith, digit-below a.t m a.rows.now a.v.now (0 + i))) c.loop-q.invariant.1 (ap (λ (d : ℕ). d / 2) e),
     )
 
 pub returns : goal.returns
 returns c =
     let e : c.loop-q.q ≡ 8 = omega arith in
-    record { low_is = rw e at c.loop-q.invariant.3; high_is = rw e at c.loop-q.invariant.4 }
+    record { low_is = rw e at c.loop-q.invariant.0; high_is = rw e at c.loop-q.invariant.1 }

@@ -1,6 +1,6 @@
--- `linear_digits::partial::eight_rows` meets its contract. The invariant of its loop: `at` is where row q starts, `left` rows are left from there, and `lo` and `hi` have the first q bits.
+-- `linear_digits::partial::eight_rows` meets its contract. The invariant of its loop: `lo` and `hi` have the first q bits.
 use mathlib.Core.Path.{◌≡◌}
-use Prim.Native.Nat.{◌-◌, ◌*◌, ◌/◌, ◌≤◌, min}
+use Prim.Native.Nat.{◌/◌}
 use lib.ListN.{length}
 use Rattle.linear_model.specs.Tables.{from, below}
 use Rattle.linear_model.specs.Bits.{from_bits}
@@ -10,9 +10,5 @@ use Rattle.linear_digits.proofs.partial.eight_rows.Given as goal
 
 abbrev pub invariant-loop-q : goal.invariant-loop-q
 invariant-loop-q l =
-    let m = length l.v / 2 in
-    let f = below l.t (row_digit m l.rows l.v) in
-    (l.q ≤ 8) × (l.at ≡ min (2 * m * l.q) (length l.rows)) × (l.left ≡ l.t - l.q) × (l.lo ≡ from_bits l.q (from 0 (low f))) × (l.hi ≡ from_bits l.q (from 0 (high f)))
-
-abbrev pub decreases-loop-q : goal.decreases-loop-q
-decreases-loop-q l = 8 - l.q
+    let f = below l.t (row_digit (length l.v / 2) l.rows l.v) in
+    (l.lo ≡ from_bits l.q (from 0 (low f))) × (l.hi ≡ from_bits l.q (from 0 (high f)))

@@ -1,10 +1,6 @@
 -- `linear_rotations::rotations::masks` meets its contract. The invariant of its loop: a masks are stored.
-use Prim.Native.Nat.{◌-◌, ◌≤◌}
 use Rattle.linear_model.specs.Internal.Rotations.{Overwritten, mask_at}
 use Rattle.linear_rotations.proofs.rotations.masks.Given as goal
 
 abbrev pub invariant-loop-a : goal.invariant-loop-a
-invariant-loop-a l = (l.a ≤ l.w) × Overwritten (mask_at l.key l.q) l.o l.a l.initial.to l.to
-
-abbrev pub decreases-loop-a : goal.decreases-loop-a
-decreases-loop-a l = l.w - l.a
+invariant-loop-a g l = Overwritten (mask_at l.key l.q) l.o l.a l.initial.to l.to

@@ -1,5 +1,5 @@
 use mathlib.Core.Path.{◌≡◌, ap}
-use Prim.Native.Nat.{◌-◌, ◌*◌}
+use Prim.Native.Nat.{◌-◌, ◌*◌, ◌/◌}
 use native.Mathlib.Nat.{mul-zero}
 use native.Mathlib.Omega.{arith}
 use lib.ListN.{length}
@@ -8,37 +8,21 @@ use Rattle.linear_model.proofs.Internal.Rotations.{horner-none, horner-step, ste
 use Rattle.linear_rotations.proofs.rotations.multiply.Goals as goal
 
 pub loop-i-init : goal.loop-i-init
-loop-i-init c =
-    let a = c.args in
-    let z : a.acc.now ≡ zeros 9 = c.requires.5 in
-    let e : a.n * a.steps ≡ 64 = c.requires.4 in
-    (omega arith, ap length z, λ key label fs. rw (z, e) (horner-none a.w key label 64))
-
-pub overflow_mul-n : goal.overflow_mul-n
-overflow_mul-n c =
-    let a = c.args in
-    omega (arith, step_before a.n c.loop-i.i (omega arith), steps_fit a.n c.loop-i.i a.steps c.loop-i.invariant.0 c.requires.4)
-
-pub step-requires : goal.step-requires
-step-requires c =
-    let a = c.args in
-    let h = c.requires in
-    let b = step_before a.n c.loop-i.i (omega arith) in
-    let f = steps_fit a.n c.loop-i.i a.steps c.loop-i.invariant.0 h.4 in
-    (h.2, h.3, omega (arith, b, f), h.0, h.1, c.loop-i.invariant.1)
+loop-i-init g c =
+    let z : c.args.acc.now ≡ zeros 9 = c.requires.5 in
+    let e : g.row.N * (64 / g.row.N) ≡ 64 = grind arith in
+    (ap length z, λ key label fs. rw (z, e) (horner-none g.row.W key label 64))
 
 pub loop-i-preserved : goal.loop-i-preserved
-loop-i-preserved c =
-    let a = c.args in
-    let h = c.requires in
-    let i = c.loop-i.invariant in (
-      omega (arith, i.0),
+loop-i-preserved g c =
+    let i = c.loop-i.i in
+    let e : g.row.N * (64 / g.row.N) ≡ 64 = grind arith in (
       c.step.ensures.long,
-      λ key label fs. horner-step fs a.n (a.n * c.loop-i.i) (a.n * (c.loop-i.i - 1)) h.3 (step_before a.n c.loop-i.i (omega arith))
-          (steps_fit a.n c.loop-i.i a.steps i.0 h.4) (i.2 key label fs) c.step.ensures,
+      λ key label fs. horner-step fs g.row.N (g.row.N * i) (g.row.N * (i - 1)) c.requires.3 (step_before g.row.N i (omega arith))
+          (steps_fit g.row.N i (64 / g.row.N) (omega arith) e) (c.loop-i.invariant.1 key label fs) c.step.ensures,
     )
 
 pub returns : goal.returns
-returns c =
+returns g c =
     let e : c.loop-i.i ≡ 0 = omega arith in
-    simp mul-zero at (rw e at c.loop-i.invariant.2)
+    simp mul-zero at (rw e at c.loop-i.invariant.1)

@@ -15,5 +15,5 @@ returns c =
     let label = a.label.now in
     let e : length a.out.now ≡ 8 * a.w = c.requires.2 in
     rw e (c.store.ensures (horner a.w (bit key) (around (8 * a.w) label) 0 64) (λ i. omega arith)
-    (c.multiply_unrolled.ensures (bit key) (around (8 * a.w) label) (factors a.w 4 key label c.read.ensures c.read_label.ensures))
+    (c.multiply_any.ensures (bit key) (around (8 * a.w) label) (factors a.w 4 key label c.read.ensures c.read_label.ensures))
     ∙ product_packed a.w key label)

@@ -5,18 +5,10 @@ use Rattle.linear_model.proofs.Internal.Overwriting.{overwritten_none, overwritt
 use Rattle.linear_rotations.proofs.rotations.read.Goals as goal
 
 pub loop-j-init : goal.loop-j-init
-loop-j-init c = (omega arith, overwritten_none)
+loop-j-init c = overwritten_none
 
 pub loop-j-preserved : goal.loop-j-preserved
 loop-j-preserved c =
     let a = c.args in
     let e : 8 * (8 * c.loop-j.j) ≡ 64 * c.loop-j.j = omega arith in
-    (omega arith, overwritten_more (a.o + c.loop-j.j) c.loop-j.invariant.1 refl (omega arith) (rw e at c.word_at.ensures))
-
-pub shape_of-to : goal.shape_of-to
-shape_of-to c = c.loop-j.invariant.1.long
-
-pub returns : goal.returns
-returns c =
-    let e : c.loop-j.j ≡ c.args.w = omega arith in
-    rw e at c.loop-j.invariant.1
+    overwritten_more (a.o + c.loop-j.j) c.loop-j.invariant refl (omega arith) (rw e at c.word_at.ensures)

@@ -2,7 +2,8 @@ use mathlib.Core.Path.{◌∙◌}
 use Prim.Native.Nat.{◌+◌, ◌*◌}
 use native.Mathlib.Nat.{zero-add}
 use native.Mathlib.Omega.{arith}
-use lib.ListN.{length, drop, length-set}
+use Rattle.std.proofs.lemmas.List.{length-drop, take_rest}
+use lib.ListN.{length, drop}
 use Rattle.linear_model.specs.Tables.{below}
 use Rattle.linear_model.specs.Products.{row_digit, matrix_product}
 use Rattle.linear_model.specs.Internal.Planes.{PlaneBits}
@@ -17,19 +18,17 @@ loop-p-init c = (rows_start _ _, omega arith, planes_none (omega arith))
 pub some_rows-e-requires : goal.some_rows-e-requires
 some_rows-e-requires c =
     let a = c.args in
-    (omega arith, rows_there (2 * a.m) a.t c.loop-p.p _ _ c.loop-p.invariant.0 (omega arith) _ (omega arith), omega arith, omega arith)
-
-pub bounds-out-n : goal.bounds-out-n
-bounds-out-n c = simp length-set (omega arith)
+    let there = rows_there (2 * a.m) a.t c.loop-p.p c.loop-p.at c.min-c.result c.loop-p.invariant.0 (omega arith) (length a.rows.now) (omega arith) in
+    (omega arith, rw (take_rest, length-drop) (omega (arith, there)), omega arith, omega arith)
 
 pub overflow_mul-at-in-loop-p : goal.overflow_mul-at-in-loop-p
 overflow_mul-at-in-loop-p c = let a = c.args in
-    omega (arith, rows_there (2 * a.m) a.t c.loop-p.p c.loop-p.at c.least-c.result c.loop-p.invariant.0 (omega arith) (length a.rows.now) (omega arith))
+    omega (arith, rows_there (2 * a.m) a.t c.loop-p.p c.loop-p.at c.min-c.result c.loop-p.invariant.0 (omega arith) (length a.rows.now) (omega arith))
 
 pub overflow_add-at : goal.overflow_add-at
 overflow_add-at c =
     let a = c.args in
-    omega (arith, rows_there (2 * a.m) a.t c.loop-p.p c.loop-p.at c.least-c.result c.loop-p.invariant.0 (omega arith) (length a.rows.now) (omega arith))
+    omega (arith, rows_there (2 * a.m) a.t c.loop-p.p c.loop-p.at c.min-c.result c.loop-p.invariant.0 (omega arith) (length a.rows.now) (omega arith))
 
 pub loop-p-preserved : goal.loop-p-preserved
 loop-p-preserved c =
@@ -40,12 +39,9 @@ loop-p-preserved c =
     let e : PlaneBits 8 f p c.some_rows-e.result.low c.some_rows-e.result.high =
     plane_bits_ext (below c.loop-p.left g) f 0 p _ _
     (λ k. rows_from_lem a.m a.t a.rows.now a.v.now (8 * p) c.loop-p.at c.loop-p.left (0 + k) (omega arith) c.loop-p.invariant.0 c.loop-p.invariant.1 ∙ rw zero-add)
-    (below-min c.loop-p.left g _ _ (rw c.least-c.ensures at c.some_rows-e.ensures))
+    (below-min c.loop-p.left g _ _ (rw (take_rest, c.min-c.ensures) at c.some_rows-e.ensures))
     in
-    (rows_next (2 * a.m) a.t p c.loop-p.at c.least-c.result c.loop-p.invariant.0 (omega arith), omega arith, planes_more c.loop-p.invariant.2 (omega arith) e)
-
-pub shape_of-out : goal.shape_of-out
-shape_of-out c = c.loop-p.invariant.2.long
+    (rows_next (2 * a.m) a.t p c.loop-p.at c.min-c.result c.loop-p.invariant.0 (omega arith), omega arith, planes_more c.loop-p.invariant.2 (omega arith) e)
 
 pub returns : goal.returns
 unfolding matrix_product

@@ -9,6 +9,3 @@ use Rattle.linear_rows.proofs.rows.whole_rows.Given as goal
 abbrev pub invariant-loop-p : goal.invariant-loop-p
 invariant-loop-p l =
     (l.at ≡ 2 * l.m * min (8 * l.p) l.t) × (l.left ≡ l.t - 8 * l.p) × Planes l.n (below l.t (row_digit l.m l.rows l.v)) l.p l.initial.out l.out
-
-abbrev pub decreases-loop-p : goal.decreases-loop-p
-decreases-loop-p l = l.n - l.p

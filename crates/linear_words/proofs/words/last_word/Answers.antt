@@ -1,4 +1,4 @@
-use mathlib.Core.Path.{◌≡◌, ap, ◌∙◌}
+use mathlib.Core.Path.{ap, ◌∙◌}
 use Prim.Native.Nat.{ℕ, ◌+◌, ◌*◌}
 use native.Mathlib.Omega.{arith}
 use Rattle.linear_model.specs.Tables.{from}
@@ -14,14 +14,7 @@ pub loop-k-preserved : goal.loop-k-preserved
 loop-k-preserved c =
     let a = c.args in
     let f = from (8 * a.i) (bit a.s.now) in
-    let k = c.loop-k.k in (
-      omega arith,
-      or_part 64 (8 * k) 8 _ _ f (omega arith) (λ j. bit_lt a.s.now (8 * a.i + j)) c.loop-k.invariant.1
-          (byte_part a.s.now a.i k _ (c.wide.ensures ∙ c.byte_at.ensures) (omega (arith, c.byte_at.type_inv, c.wide.ensures)))
-          ∙ ap (λ (n : ℕ). from_bits n f) (omega arith),
-    )
-
-pub returns : goal.returns
-returns c =
-    let e : c.loop-k.k ≡ 8 = omega arith in
-    rw e at c.loop-k.invariant.1
+    let k = c.loop-k.k in
+    or_part 64 (8 * k) 8 _ _ f (omega arith) (λ j. bit_lt a.s.now (8 * a.i + j)) c.loop-k.invariant
+    (byte_part a.s.now a.i k _ (c.from.ensures ∙ c.byte_at.ensures) (omega (arith, c.byte_at.type_inv, c.from.ensures)))
+    ∙ ap (λ (n : ℕ). from_bits n f) (omega arith)

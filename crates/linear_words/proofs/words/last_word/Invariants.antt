@@ -1,12 +1,9 @@
 -- `linear_words::words::last_word` meets its contract. The invariant of its loop: `acc` has the first k bytes.
 use mathlib.Core.Path.{◌≡◌}
-use Prim.Native.Nat.{◌-◌, ◌*◌, ◌≤◌}
+use Prim.Native.Nat.{◌*◌}
 use Rattle.linear_model.specs.Tables.{from}
 use Rattle.linear_model.specs.Bits.{from_bits, bit}
 use Rattle.linear_words.proofs.words.last_word.Given as goal
 
 abbrev pub invariant-loop-k : goal.invariant-loop-k
-invariant-loop-k l = (l.k ≤ 8) × (l.acc ≡ from_bits (8 * l.k) (from (8 * l.i) (bit l.s)))
-
-abbrev pub decreases-loop-k : goal.decreases-loop-k
-decreases-loop-k l = 8 - l.k
+invariant-loop-k l = l.acc ≡ from_bits (8 * l.k) (from (8 * l.i) (bit l.s))

@@ -7,15 +7,15 @@ use Rattle.linear_model.proofs.Tables.{every_more}
 use Rattle.matrix_model.proofs.Internal.Tests.{or-zero}
 use Rattle.matrix_blocks.proofs.blocks.all_zero.Goals as goal
 
-pub loop-i-init : goal.loop-i-init
+pub loop-x-init : goal.loop-x-init
 unfolding every
-loop-i-init c = (omega arith, refl)
+loop-x-init c = refl
 
-pub loop-i-preserved : goal.loop-i-preserved
-loop-i-preserved c =
-    (omega arith, or-zero c.loop-i.any _ ∙ rw (every_more c.loop-i.i (zero_byte c.args.s.now), c.loop-i.invariant.1))
+pub loop-x-preserved : goal.loop-x-preserved
+loop-x-preserved c =
+    or-zero c.loop-x.any _ ∙ rw (every_more c.loop-x.x-index (zero_byte c.args.s.now), c.loop-x.invariant)
 
 pub returns : goal.returns
 returns c =
-    let e : c.loop-i.i ≡ length c.args.s.now = omega arith in
-    rw e at c.loop-i.invariant.1
+    let e : c.loop-x.x-index ≡ length c.args.s.now = omega arith in
+    rw e at c.loop-x.invariant

@@ -13,10 +13,10 @@ use Rattle.matrix_blocks.proofs.blocks.laid_out.Goals.{After-bytes_in-end}
 
 room : (c : After-bytes_in-end) → 4 + c.bytes_in-end.result ≤ 510
 room c =
-    rw c.bytes_in-end.ensures (before_check (layout_in c.args.layout) c.requires.0 c.args.b)
+    rw c.bytes_in-end.ensures (before_check (layout_in c.args.layout) c.args.layout.fits c.args.b)
 
 pub bytes_in-end-requires : goal.bytes_in-end-requires
-bytes_in-end-requires c = (c.requires.0, c.requires.2)
+bytes_in-end-requires c = c.requires.1
 
 pub overflow_add-end : goal.overflow_add-end
 overflow_add-end c = omega (arith, room (goal.at.overflow_add-end c).After-bytes_in-end)
@@ -39,4 +39,4 @@ returns c =
     ∙ unused_part block (4 + c.bytes_in-end.result) (room (goal.at.returns c).After-bytes_in-end) (omega arith)
     ∙ ap (λ (k : ℕ). every (510 - (4 + k)) (λ j. zero_byte block (4 + k + j))) c.bytes_in-end.ensures
     in
-    c.both.ensures ∙ ap₂ ◌&&◌ c.head_holds.ensures unused
+    ap₂ ◌&&◌ c.head_holds.ensures unused

@@ -12,18 +12,18 @@ use Rattle.matrix_digits.proofs.digits.code_of.Goals.{After-gather-all, In-loop-
 -- the rows are few
 few : (c : In-loop-p) → c.args.layout.row_count ≤ 253 * 255
 few c =
-    count_small (layout_in c.args.layout) c.requires.0
+    count_small (layout_in c.args.layout) c.args.layout.fits
 
 -- what is gathered is enough for a byte
 enough : (c : After-gather-all)
     → (min (8 * c.loop-p.p + 8) c.args.layout.row_count ≤ c.gather-all.result.done)
-enough c = omega (arith, c.gather-all.ensures.2, c.least.ensures)
+enough c = omega (arith, c.gather-all.ensures.2, c.min.ensures)
 
 pub overflow_add-n : goal.overflow_add-n
-overflow_add-n c = omega (arith, count_small (layout_in c.args.layout) c.requires.0)
+overflow_add-n c = omega (arith, count_small (layout_in c.args.layout) c.args.layout.fits)
 
 pub loop-p-init : goal.loop-p-init
-loop-p-init c = (planes_none (omega arith), gathering_none c.requires.0, omega arith)
+loop-p-init c = (planes_none (omega arith), gathering_none c.args.layout.fits, omega arith)
 
 pub overflow_mul-p : goal.overflow_mul-p
 overflow_mul-p c = omega (arith, few (goal.at.overflow_mul-p c).In-loop-p)
@@ -36,7 +36,7 @@ overflow_add-p c = omega (arith, few (goal.at.overflow_add-p c).In-loop-p)
 
 pub gather-all-requires : goal.gather-all-requires
 gather-all-requires c =
-    (c.requires.0, c.requires.1, c.requires.2, c.loop-p.invariant.1, omega (arith, c.loop-p.invariant.2), c.least.ensures)
+    (c.requires.1, c.loop-p.invariant.1, omega (arith, c.loop-p.invariant.2), c.min.ensures)
 
 pub bounds-out-p : goal.bounds-out-p
 bounds-out-p c = omega (arith, c.loop-p.invariant.0.long)
@@ -47,15 +47,14 @@ bounds-out-n c = simp length-set (omega (arith, c.loop-p.invariant.0.long))
 pub loop-p-preserved : goal.loop-p-preserved
 loop-p-preserved c =
     let layout = layout_in c.args.layout in
-    let small = code-small layout c.requires.0 c.args.file.now c.args.v.now in
-    let past = code_past layout c.requires.0 c.args.file.now c.args.v.now in
+    let small = code-small layout c.args.layout.fits c.args.file.now c.args.v.now in
+    let past = code_past layout c.args.layout.fits c.args.file.now c.args.v.now in
     let p = c.loop-p.p in
     let g = c.gather-all.ensures in
-    let left = c.after_byte-g.ensures in
     let byte = gathering_byte small past p g.0 g.1 (enough (goal.at.loop-p-preserved c).After-gather-all) in (
-      planes_more c.loop-p.invariant.0 (omega arith) (rw (c.low_byte.ensures, c.low_byte-in-loop-p.ensures) byte),
-      rw (left.0, left.1, left.2, left.3, left.4) (gathering_left small past p g.0 g.1 (enough (goal.at.loop-p-preserved c).After-gather-all)),
-      omega (arith, left.2, enough (goal.at.loop-p-preserved c).After-gather-all),
+      planes_more c.loop-p.invariant.0 (omega arith) (byte),
+      (gathering_left small past p g.0 g.1 (enough (goal.at.loop-p-preserved c).After-gather-all)),
+      omega (arith, enough (goal.at.loop-p-preserved c).After-gather-all),
     )
 
 pub shape_of-out : goal.shape_of-out

@@ -2,11 +2,11 @@ use native.Mathlib.Omega.{arith}
 use Rattle.matrix_digits.proofs.digits.gather.Goals as goal
 
 pub loop-all-init : goal.loop-all-init
-loop-all-init c = (c.requires.3, c.requires.4)
+loop-all-init c = (c.requires.1, c.requires.2)
 
 pub more-all-requires : goal.more-all-requires
 more-all-requires c =
-    (c.requires.0, c.requires.1, c.requires.2, c.loop-all.invariant.0, c.loop-all.invariant.1, omega (arith, c.requires.5), omega (arith, c.requires.5))
+    (c.requires.0, c.loop-all.invariant.0, c.loop-all.invariant.1, omega (arith, c.requires.3), omega (arith, c.requires.3))
 
 pub loop-all-smaller : goal.loop-all-smaller
 loop-all-smaller c = omega (arith, c.more-all.ensures.1)

@@ -6,7 +6,7 @@ use Rattle.matrix_digits.proofs.digits.gather.Given as goal
 
 abbrev pub invariant-loop-all : goal.invariant-loop-all
 invariant-loop-all l =
-    Gathering (layout_in l.layout) (code_digit (layout_in l.layout) l.file l.v) l.start l.all.done l.all.block l.all.place l.all.low l.all.high × (l.start ≤ l.all.done)
+    Gathering (layout_in l.file.layout) (code_digit (layout_in l.file.layout) l.file.bytes.now l.v) l.start l.all.done l.all.block l.all.place l.all.low l.all.high × (l.start ≤ l.all.done)
 
 abbrev pub decreases-loop-all : goal.decreases-loop-all
 decreases-loop-all l = l.end - l.all.done

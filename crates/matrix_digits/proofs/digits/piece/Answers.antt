@@ -12,9 +12,9 @@ use Rattle.matrix_digits.proofs.digits.piece.Goals as goal
 use Rattle.matrix_digits.proofs.digits.piece.Goals.{Start}
 
 within : (c : Start)
-    → 512 * c.args.b + 4 + (layout_in c.args.layout).row_bytes * c.args.r + (layout_in c.args.layout).row_bytes * c.args.n ≤ length c.args.file.now
+    → 512 * c.args.b + 4 + (layout_in c.args.file.layout).row_bytes * c.args.r + (layout_in c.args.file.layout).row_bytes * c.args.n ≤ length c.args.file.bytes.now
 within c =
-    piece_within (layout_in c.args.layout) c.requires.0 c.args.file.now c.args.v.now c.args.b c.args.r c.args.n c.requires.1 c.requires.3 c.requires.4
+    piece_within (layout_in c.args.file.layout) c.args.file.layout.fits c.args.file.bytes.now c.args.v.now c.args.b c.args.r c.args.n c.args.file.long c.requires.1 c.requires.2
 
 pub overflow_mul-at : goal.overflow_mul-at
 overflow_mul-at c = omega (arith, within (goal.at.overflow_mul-at c).Start)
@@ -40,13 +40,13 @@ slice_bounds-matrix_product-end c = omega (arith, within (goal.at.slice_bounds-m
 pub returns : goal.returns
 returns c =
     let a = c.args in
-    let layout = layout_in a.layout in
+    let layout = layout_in a.file.layout in
     let at = 512 * a.b + 4 + layout.row_bytes * a.r in
-    let part = take (layout.row_bytes * a.n) (drop at a.file.now) in
+    let part = take (layout.row_bytes * a.n) (drop at a.file.bytes.now) in
     let k : at + layout.row_bytes * a.n - at ≡ layout.row_bytes * a.n = omega arith in
-    let e : length a.v.now / 2 ≡ layout.row_bytes / 2 = ap (λ (n : ℕ). n / 2) c.requires.2 in
-    rw (c.wide.ensures, c.wide-2.ensures)
-    (piece_span layout c.requires.0 a.file.now a.v.now
-    (among_piece layout c.requires.0 a.file.now a.v.now a.b a.r a.n c.requires.1 c.requires.3 c.requires.4 part refl)
-    (omega (arith, c.requires.4, next_rows layout c.requires.0 a.b c.requires.3)) c.requires.5 _
+    let e : length a.v.now / 2 ≡ layout.row_bytes / 2 = ap (λ (n : ℕ). n / 2) c.requires.0 in
+    rw (c.from.ensures, c.from-2.ensures)
+    (piece_span layout c.args.file.layout.fits a.file.bytes.now a.v.now
+    (among_piece layout c.args.file.layout.fits a.file.bytes.now a.v.now a.b a.r a.n c.args.file.long c.requires.1 c.requires.2 part refl)
+    (omega (arith, c.requires.2, next_rows layout c.args.file.layout.fits a.b c.requires.1)) c.requires.3 _
     (rw k at c.matrix_product.ensures ∙ append-nil _ ∙ ap (λ (k : ℕ). matrix_product 1 k a.n part a.v.now) e))

@@ -1,72 +1,56 @@
 -- `matrix_files::file::file_write` meets its contract: a refusal leaves the slice, and the rows survive in what is written.
 use mathlib.Core.Path.{◌≡◌, refl, sym, ap, ◌∙◌}
-use Prim.Native.Nat.{◌≤◌}
 use native.Mathlib.Omega.{arith}
-use borrow.Author.Tests.{eq-eqb, ne_eqb, lt-ltb, le-ltb}
 use lib.ListN.{length, take}
 use lib.Seq.{take_at}
+use Rattle.std.proofs.lemmas.Result.{err_from_is_err_and}
 use Rattle.numbers.specs.Number.{first}
-use Rattle.matrix_model.specs.File.{file_size, rows_size, file_from, row_faults_of, write_number_of}
 use Rattle.numbers.proofs.Outputs.{refusal, success}
+use Rattle.numbers.proofs.Refusals.{refused}
+use Rattle.matrix_model.specs.File.{file_size, rows_size, file_from, row_faults_of}
 use Rattle.matrix_model.proofs.RoundTrip.{length_file, survives}
+use Rattle.matrix_model.proofs.Internal.Reading.{other_write, short_write, whole_write}
 use Rattle.matrix_blocks.specs.Layouts.{layout_in}
+use Rattle.matrix_files.proofs.Clauses.{written}
 use Rattle.matrix_files.proofs.file.file_write.Goals as goal
-use Rattle.matrix_files.proofs.file.file_write.Goals.{Else-out-file_size, Else-rows-rows_size}
+use Rattle.matrix_files.proofs.file.file_write.Goals.{In_ok-rows}
 
-long : (c : Else-rows-rows_size) → (let a = c.args in length a.rows.now ≡ rows_size (layout_in a.layout))
-long c = c.if-rows-rows_size.false ∙ c.rows_size.ensures
+-- the rows have the right length
+long : (c : In_ok-rows) → length c.args.rows.now ≡ rows_size (layout_in c.args.layout)
+long c = let same = c.in_ok-rows.ensures in rw (same.0, same.1) at c.in_ok-rows.rows.long
 
-room : (c : Else-out-file_size) → (let a = c.args in file_size (layout_in a.layout) ≤ length a.out.now)
-room c = omega (arith, c.file_size.ensures)
-
--- where both lengths are right the rows decide
-decided : (c : Else-out-file_size)
-    → (let a = c.args in
-    first (row_faults_of (layout_in a.layout) a.rows.now) ≡ write_number_of (layout_in a.layout) a.rows.now (length a.out.now))
-unfolding first
-decided c =
+pub returns-in_err-rows : goal.returns-in_err-rows
+returns-in_err-rows c =
     let a = c.args in
-    let layout = layout_in a.layout in
-    rw (eq-eqb (length a.rows.now) (rows_size layout) (c.if-rows-rows_size.false ∙ c.rows_size.ensures), le-ltb (length a.out.now) (file_size layout) (omega (arith, c.file_size.ensures)))
-
--- a result, an output and what follows, as the clauses that they are
-clauses : {A B C : Type 0} → A × (B × C) → record { result : A; output : B; round_trip : C }
-clauses h = record { result = h.0; output = h.1.0; round_trip = h.1.1 }
-
-pub rows_size-requires : goal.rows_size-requires
-rows_size-requires c = c.requires.0
-
-pub returns-then-rows-rows_size : goal.returns-then-rows-rows_size
-unfolding first
-returns-then-rows-rows_size c =
-    let a = c.args in
-    clauses (refusal _ _ (rw (ne_eqb (length a.rows.now) (rows_size (layout_in a.layout)) (λ z. c.if-rows-rows_size.true (z ∙ sym c.rows_size.ensures)))) (λ z. omega arith))
-
-pub file_size-requires : goal.file_size-requires
-file_size-requires c = c.requires.0
+    let p = err_from_is_err_and c.from_residual.result c.from_residual.ensures.1 in
+    let other = c.in_err-rows.ensures in
+    rw (p.1, p.2, other.0) (written (refusal _ _ (other_write (layout_in a.layout) a.rows.now (length a.out.now) other.1) (λ z. omega arith)))
 
 pub returns-then-out-file_size : goal.returns-then-out-file_size
-unfolding first
 returns-then-out-file_size c =
     let a = c.args in
-    let layout = layout_in a.layout in
-    clauses (refusal _ _ (rw (eq-eqb (length a.rows.now) (rows_size layout) (long (goal.at.returns-then-out-file_size c).Else-rows-rows_size), lt-ltb (length a.out.now) (file_size layout) (omega (arith, c.file_size.ensures)))) (λ z. omega arith))
+    written (refusal _ _ (short_write (layout_in a.layout) a.rows.now (length a.out.now) (omega (arith, c.file_size.ensures))) (λ z. omega arith))
 
-pub all_rows_number-number-requires : goal.all_rows_number-number-requires
-all_rows_number-number-requires c = let p = c.requires in (p.0, p.1, long (goal.at.all_rows_number-number-requires c).Else-rows-rows_size)
-
-pub returns-then-number-ne-DONE : goal.returns-then-number-ne-DONE
-returns-then-number-ne-DONE c = clauses (refusal _ _ (c.all_rows_number-number.ensures ∙ decided (goal.at.returns-then-number-ne-DONE c).Else-out-file_size) c.if-number-ne-DONE.true)
+pub returns-in_err-check_all_rows : goal.returns-in_err-check_all_rows
+returns-in_err-check_all_rows c =
+    let a = c.args in
+    let p = err_from_is_err_and c.from_residual-in_err-check_all_rows.result c.from_residual-in_err-check_all_rows.ensures.1 in
+    let same = c.in_ok-rows.ensures in
+    let e = rw (same.0, same.1) at c.in_err-check_all_rows.ensures in
+    rw (p.1, p.2)
+    (written (refusal _ _ (e ∙ whole_write (layout_in a.layout) a.rows.now (length a.out.now) (long (goal.at.returns-in_err-check_all_rows c).In_ok-rows) (omega (arith, c.file_size.ensures))) (refused _ refl)))
 
 pub write_blocks-requires : goal.write_blocks-requires
-write_blocks-requires c = (c.requires.0, long (goal.at.write_blocks-requires c).Else-rows-rows_size, room (goal.at.write_blocks-requires c).Else-out-file_size)
+write_blocks-requires c = let same = c.in_ok-rows.ensures in rw same.0 (omega (arith, c.file_size.ensures))
 
 pub returns : goal.returns
 returns c =
     let layout = layout_in c.args.layout in
     let set = c.args.rows.now in
-    let z : c.all_rows_number-number.result ≡ 0 = c.if-number-ne-DONE.false in
-    let e = c.write_blocks.ensures in
-    let file = length_file layout c.requires.0 set (long (goal.at.returns c).Else-rows-rows_size) in
-    clauses (success (file_from layout set) c.args.out.now (sym z ∙ c.all_rows_number-number.ensures ∙ decided (goal.at.returns c).Else-out-file_size) refl (rw file e)
-    (rw (ap (take (file_size layout)) e ∙ take_at (file_from layout set) _ (file_size layout) file) (survives layout c.requires.0 set (long (goal.at.returns c).Else-rows-rows_size) (sym c.all_rows_number-number.ensures ∙ z))))
+    let same = c.in_ok-rows.ensures in
+    let e = rw (same.0, same.1) at c.write_blocks.ensures in
+    let fit : first (row_faults_of layout set) ≡ 0 = sym (rw (same.0, same.1) at c.in_ok-check_all_rows.ensures) in
+    let long = long (goal.at.returns c).In_ok-rows in
+    let file = length_file layout c.args.layout.fits set long in
+    written (success (file_from layout set) c.args.out.now (sym fit ∙ whole_write layout set (length c.args.out.now) long (omega (arith, c.file_size.ensures))) refl (rw file e)
+    (rw (ap (take (file_size layout)) e ∙ take_at (file_from layout set) _ (file_size layout) file) (survives layout c.args.layout.fits set long fit)))

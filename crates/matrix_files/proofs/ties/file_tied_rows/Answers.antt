@@ -1,73 +1,57 @@
 -- `matrix_files::ties::file_tied_rows` meets its contract: a refusal leaves the slice, and a list that is not empty is the only one.
-use mathlib.Core.Path.{◌≡◌, refl, sym, ◌∙◌}
-use Prim.Native.Nat.{◌≤◌}
+use mathlib.Core.Path.{◌≡◌, refl, sym}
 use native.Mathlib.Omega.{arith}
 use lib.ListN.{length}
+use Rattle.std.proofs.lemmas.Result.{err_from_is_err_and}
+use Rattle.numbers.proofs.Refusals.{refused}
+use Rattle.numbers.specs.declared.refusal.Refusal.TheVariants.{WrongLength}
 use Rattle.matrix_model.specs.File.{file_size}
-use Rattle.matrix_model.specs.Ties.{tie_size}
-use Rattle.matrix_model.specs.Internal.Rows.{form_number_of}
 use Rattle.matrix_model.proofs.Internal.TieNumbers.{other_tie, short_tie, form_tie, tie_refused, none_listed, some_listed}
-use Rattle.matrix_model.proofs.Layouts.{count_small}
 use Rattle.matrix_blocks.specs.Layouts.{layout_in}
 use Rattle.matrix_files.proofs.ties.file_tied_rows.Goals as goal
-use Rattle.matrix_files.proofs.ties.file_tied_rows.Goals.{Else-number-ne-DONE, Else-out-layout}
+use Rattle.matrix_files.proofs.ties.file_tied_rows.Goals.{In_ok-file}
 
--- the file has the right length, and there is room for the list
-whole : (c : Else-out-layout)
-    → (let a = c.args in
-    (length a.file.now ≡ file_size (layout_in a.layout)) × (tie_size (layout_in a.layout) ≤ length a.out.now))
-whole c = (c.if-file-file_size.false ∙ c.file_size.ensures, omega arith)
+-- the file has the right length
+long : (c : In_ok-file) → length c.args.file.now ≡ file_size (layout_in c.args.layout)
+long c = let same = c.in_ok-file.ensures in rw (same.0, same.1) at c.in_ok-file.file.long
 
--- the file is refused for nothing but its ties
-form : (c : Else-number-ne-DONE)
-    → (let a = c.args in form_number_of (layout_in a.layout) a.file.now ≡ 0)
-form c = sym c.form_number-number.ensures ∙ c.if-number-ne-DONE.false
-
--- a result, a count, an output and what follows, as the clauses that they are
-clauses : {A B C D : Type 0} → A × (B × (C × D)) → record { result : A; count : B; output : C; only_tie : D }
-clauses h = record { result = h.0; count = h.1.0; output = h.1.1.0; only_tie = h.1.1.1 }
-
-pub file_size-requires : goal.file_size-requires
-file_size-requires c = c.requires.0
-
-pub returns-then-file-file_size : goal.returns-then-file-file_size
-returns-then-file-file_size c =
+pub returns-in_err-file : goal.returns-in_err-file
+returns-in_err-file c =
     let a = c.args in
-    clauses (tie_refused (layout_in a.layout) a.file.now a.out.now c.refused.ensures
-    (other_tie (layout_in a.layout) a.file.now (length a.out.now) (λ z. c.if-file-file_size.true (z ∙ sym c.file_size.ensures))) (λ z. omega arith) refl)
-
-pub overflow_mul-layout : goal.overflow_mul-layout
-overflow_mul-layout c = omega (arith, count_small (layout_in c.args.layout) c.requires.0)
+    let p = err_from_is_err_and c.from_residual.result c.from_residual.ensures.1 in
+    let other = c.in_err-file.ensures in
+    rw (p.1, p.2, other.0) (tie_refused (layout_in a.layout) a.file.now a.out.now WrongLength (other_tie (layout_in a.layout) a.file.now (length a.out.now) other.1) refl)
 
 pub returns-then-out-layout : goal.returns-then-out-layout
 returns-then-out-layout c =
     let a = c.args in
-    clauses (tie_refused (layout_in a.layout) a.file.now a.out.now c.refused-then-out-layout.ensures
-    (short_tie (layout_in a.layout) a.file.now (length a.out.now) (omega arith)) (λ z. omega arith) refl)
+    tie_refused (layout_in a.layout) a.file.now a.out.now WrongLength (short_tie (layout_in a.layout) a.file.now (length a.out.now) (omega arith)) refl
 
-pub form_number-number-requires : goal.form_number-number-requires
-form_number-number-requires c = (c.requires.0, (whole (goal.at.form_number-number-requires c).Else-out-layout).0)
-
-pub returns-then-number-ne-DONE : goal.returns-then-number-ne-DONE
-returns-then-number-ne-DONE c =
+pub returns-in_err-check_form : goal.returns-in_err-check_form
+returns-in_err-check_form c =
     let a = c.args in
-    let w = whole (goal.at.returns-then-number-ne-DONE c).Else-out-layout in
-    clauses (tie_refused (layout_in a.layout) a.file.now a.out.now c.refused-then-number-ne-DONE.ensures
-    (form_tie (layout_in a.layout) a.file.now (length a.out.now) w.0 w.1 _ c.form_number-number.ensures c.if-number-ne-DONE.true) c.if-number-ne-DONE.true refl)
+    let p = err_from_is_err_and c.from_residual-in_err-check_form.result c.from_residual-in_err-check_form.ensures.1 in
+    let same = c.in_ok-file.ensures in
+    let e = rw (same.0, same.1) at c.in_err-check_form.ensures in
+    rw (p.1, p.2)
+    (tie_refused (layout_in a.layout) a.file.now a.out.now _
+    (form_tie (layout_in a.layout) a.file.now (length a.out.now) (long (goal.at.returns-in_err-check_form c).In_ok-file) (omega arith) _ e (refused _ refl)) refl)
 
 pub list_tied-count-requires : goal.list_tied-count-requires
 list_tied-count-requires c =
-    let w = whole (goal.at.list_tied-count-requires c).Else-out-layout in
-    (c.requires.0, c.requires.1, c.requires.2, w.0, c.requires.2.room, w.1)
+    let same = c.in_ok-file.ensures in
+    rw same.0 (c.requires.0, c.requires.1, c.requires.1.room, omega arith)
 
 pub returns-then-count-eq0 : goal.returns-then-count-eq0
 returns-then-count-eq0 c =
     let a = c.args in
-    let w = whole (goal.at.returns-then-count-eq0 c).Else-out-layout in
-    clauses (none_listed (layout_in a.layout) a.file.now a.out.now w.0 w.1 (form (goal.at.returns-then-count-eq0 c).Else-number-ne-DONE) c.list_tied-count.ensures c.refused-then-count-eq0.ensures c.if-count-eq0.true)
+    let same = c.in_ok-file.ensures in
+    let form = sym (rw (same.0, same.1) at c.in_ok-check_form.ensures) in
+    none_listed (layout_in a.layout) a.file.now a.out.now (long (goal.at.returns-then-count-eq0 c).In_ok-file) (omega arith) form (rw (same.0, same.1) at c.list_tied-count.ensures) c.if-count-eq0.true
 
 pub returns : goal.returns
 returns c =
     let a = c.args in
-    let w = whole (goal.at.returns c).Else-out-layout in
-    clauses (some_listed (layout_in a.layout) a.file.now a.out.now w.0 w.1 (form (goal.at.returns c).Else-number-ne-DONE) c.list_tied-count.ensures c.if-count-eq0.false)
+    let same = c.in_ok-file.ensures in
+    let form = sym (rw (same.0, same.1) at c.in_ok-check_form.ensures) in
+    some_listed (layout_in a.layout) a.file.now a.out.now (long (goal.at.returns c).In_ok-file) (omega arith) form (rw (same.0, same.1) at c.list_tied-count.ensures) c.if-count-eq0.false

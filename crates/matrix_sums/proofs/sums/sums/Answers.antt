@@ -12,6 +12,6 @@ returns c =
     let end = c.stored-end.ensures in
     let h =
     check_sums (c.group_sums-a.ensures.sums _ c.group.ensures.sums) (c.group_sums-b.ensures.sums _ c.group-2.ensures.sums)
-    (c.wide-p.ensures ∙ end.0) (c.wide-q.ensures ∙ end.1)
+    (c.from-p.ensures ∙ end.0) (c.from-q.ensures ∙ end.1)
     in
     ap₂ (λ (x y : ℕ). x ∷ y ∷ []) h.first_is h.second_is

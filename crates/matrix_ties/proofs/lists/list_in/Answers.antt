@@ -14,29 +14,29 @@ use Rattle.matrix_blocks.specs.Layouts.{layout_in}
 use Rattle.matrix_ties.proofs.lists.list_in.Goals as goal
 
 pub carrying_words-w-requires : goal.carrying_words-w-requires
-carrying_words-w-requires c = c.requires.2
+carrying_words-w-requires c = c.requires.1
 
 pub load-requires : goal.load-requires
 load-requires c =
     let p = c.requires in
     let e = c.carrying_words-w.ensures in
-    (p.0, p.3, omega arith, rw e p.4, rw e p.2.few_words)
+    (omega arith, rw e p.2, rw e p.1.few_words)
 
 pub put_tie-requires : goal.put_tie-requires
 put_tie-requires c =
-    let layout = layout_in c.args.layout in
+    let layout = layout_in c.args.file.layout in
     let e = c.carrying_words-w.ensures in
     let room : 64 * plane_words layout + layout.row_count ≤ 64 * carrying_words layout = omega arith in (
-      loaded_carrying _ _ _ (trit_at (row_plane_of layout) (rows_of layout c.args.file.now)) _ _ c.load.ensures (rw e c.requires.4) (rw e room),
-      rw e c.requires.2.few_words,
-      c.requires.2.row_numbers,
-      c.requires.5,
+      loaded_carrying _ _ _ (trit_at (row_plane_of layout) (rows_of layout c.args.file.bytes.now)) _ _ c.load.ensures (rw e c.requires.2) (rw e room),
+      rw e c.requires.1.few_words,
+      c.requires.1.row_numbers,
+      c.requires.3,
     )
 
 pub returns : goal.returns
 returns c =
-    let layout = layout_in c.args.layout in
+    let layout = layout_in c.args.file.layout in
     let f = c.put_tie.ensures in
     let more : plane_words layout ≤ carrying_words layout = omega arith in
-    let e = rows_tie layout (rows_of layout c.args.file.now) c.requires.1 _ _ _ (rw c.carrying_words-w.ensures more) c.load.ensures in
+    let e = rows_tie layout (rows_of layout c.args.file.bytes.now) c.requires.0 _ _ _ (rw c.carrying_words-w.ensures more) c.load.ensures in
     (f.count ∙ ap entry_count e, f.output ∙ ap (λ (list : List ℕ). at_front list c.args.out.now) e)

@@ -4,29 +4,17 @@ use native.Mathlib.Omega.{arith}
 use Rattle.matrix_ties.proofs.lists.list_tied.Goals as goal
 
 pub carrying_words-requires : goal.carrying_words-requires
-carrying_words-requires c = c.requires.2
+carrying_words-requires c = c.requires.1
 
 pub overflow_mul-n-2 : goal.overflow_mul-n-2
-overflow_mul-n-2 c = rw c.carrying_words.ensures (omega (arith, c.requires.4))
+overflow_mul-n-2 c = rw c.carrying_words.ensures (omega (arith, c.requires.2))
 
-pub list_in_words_2-requires : goal.list_in_words_2-requires
-list_in_words_2-requires c =
+pub list_in_words-requires : goal.list_in_words-requires
+list_in_words-requires c =
     let p = c.requires in
-    (p.0, p.1, p.2, p.3, rw (sym c.carrying_words.ensures) (omega arith), p.5)
+    ((p.0, p.1, rw (sym c.carrying_words.ensures) (omega arith), p.3), omega arith)
 
-pub returns-then-n-le-WORDS_2 : goal.returns-then-n-le-WORDS_2
-returns-then-n-le-WORDS_2 c = c.list_in_words_2.ensures
-
-pub list_in_words_1-requires : goal.list_in_words_1-requires
-list_in_words_1-requires c =
+pub list_in_words-requires-then-n-le-WORDS_1 : goal.list_in_words-requires-then-n-le-WORDS_1
+list_in_words-requires-then-n-le-WORDS_1 c =
     let p = c.requires in
-    (p.0, p.1, p.2, p.3, rw (sym c.carrying_words.ensures) (omega arith), p.5)
-
-pub returns-then-n-le-WORDS_1 : goal.returns-then-n-le-WORDS_1
-returns-then-n-le-WORDS_1 c = c.list_in_words_1.ensures
-
-pub list_in_words_3-requires : goal.list_in_words_3-requires
-list_in_words_3-requires c = c.requires
-
-pub returns : goal.returns
-returns c = c.list_in_words_3.ensures
+    ((p.0, p.1, rw (sym c.carrying_words.ensures) (omega arith), p.3), omega arith)

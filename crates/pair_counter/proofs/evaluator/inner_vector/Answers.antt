@@ -23,16 +23,13 @@ low-plane m room w l h =
     ap (λ (t : List ℕ). take (2 * m) (w ++ t)) d ∙ ap (take (2 * m)) (sym (append_assoc w (zeros m) (zeros (room - 2 * m))))
     ∙ take_at (w ++ zeros m) (zeros (room - 2 * m)) (2 * m) (length-append w (zeros m) ∙ omega (arith, length-zeros m))
 
-pub slice_bounds-circulant_product-end : goal.slice_bounds-circulant_product-end
-slice_bounds-circulant_product-end c = sym (length-take-le c.args.sizes.inner_bytes (zeros trits_room) (omega (arith, c.requires.inner)))
-
 pub returns : goal.returns
 returns c =
     let m = c.args.sizes.inner_bytes in
     let key = c.args.key.now in
     let label = c.args.label.now in
-    let h : 2 * m ≤ trits_room = omega (arith, c.requires.inner) in
-    let is = c.circulant_product.ensures ∙ ap (λ (n : ℕ). circulant_product n key label) (length-take-le m (zeros trits_room) (omega arith)) in
+    let h : 2 * m ≤ trits_room = omega (arith, c.args.sizes.fits.inner) in
+    let is = c.circulant_product.ensures ∙ ap (λ (n : ℕ). circulant_product n key label) (length-take-le m (zeros trits_room) (omega (arith, h))) in
     let b = bytes_product m m (circulant m key) label in
     ap (λ (w : List ℕ). take (2 * m) (w ++ drop m (zeros trits_room))) is
     ∙ low-plane m trits_room (circulant_product m key label) b.size h

@@ -1,35 +1,15 @@
--- `pair_deals::frames::second_r` meets its contract: w̃ and r0 are parts of the tape.
-use native.Mathlib.Omega.{arith}
+-- `pair_deals::frames::second_r` meets its contract.
+use mathlib.Core.Path.{◌∙◌}
+use Prim.Native.Nat.{◌*◌, ◌/◌}
+use mathlib.Core.List.{◌++◌}
+use lib.ListN.{length, drop}
+use Rattle.linear_model.specs.Trits.{subtract_trits}
 use Rattle.pair_deals.proofs.Parts.{r_is}
 use Rattle.pair_deals.proofs.frames.second_r.Goals as goal
 
-pub overflow_mul-inner_mask : goal.overflow_mul-inner_mask
-overflow_mul-inner_mask c = omega (arith, c.requires.0)
-
-pub overflow_mul-first_r : goal.overflow_mul-first_r
-overflow_mul-first_r c = omega (arith, c.requires.0)
-
-pub overflow_add-first_r : goal.overflow_add-first_r
-overflow_add-first_r c = omega (arith, c.requires.0)
-
-pub overflow_add-inner_mask : goal.overflow_add-inner_mask
-overflow_add-inner_mask c = omega (arith, c.requires.0)
-
-pub slice_bounds-subtract_trits-end : goal.slice_bounds-subtract_trits-end
-slice_bounds-subtract_trits-end c = omega (arith, c.requires.0)
-
-pub overflow_mul-inner_bytes : goal.overflow_mul-inner_bytes
-overflow_mul-inner_bytes c = omega (arith, c.requires.0)
-
-pub overflow_add-first_r-2 : goal.overflow_add-first_r-2
-overflow_add-first_r-2 c = omega (arith, c.requires.0)
-
-pub slice_bounds-subtract_trits-end-2 : goal.slice_bounds-subtract_trits-end-2
-slice_bounds-subtract_trits-end-2 c = omega (arith, c.requires.0)
-
-pub shape_of-out : goal.shape_of-out
-shape_of-out c = omega arith
-
 pub returns : goal.returns
 returns c =
-    r_is c.args.sizes c.args.tape.now c.args.out.now _ c.requires.1 c.subtract_trits.ensures
+    let tape = c.args.tape.now in
+    let d = c.args.out.now in
+    r_is tape.sizes tape.bytes.now d _ c.requires
+    (c.subtract_trits.ensures ∙ (λ i. subtract_trits (length d / 2) (c.inner_mask.ensures.part i) (c.first_r.ensures.part i) ++ drop (2 * (length d / 2)) d))

@@ -20,39 +20,6 @@ third at n = omega arith
 fourth : (at n m : ℕ) → at + 2 * n + m ≡ at + (n + (n + (m + 0)))
 fourth at n m = omega arith
 
-pub put_part-requires : goal.put_part-requires
-put_part-requires c = (omega (arith, c.requires.1), omega (arith, c.requires.0.key))
-
-pub overflow_add-at : goal.overflow_add-at
-overflow_add-at c = omega (arith, c.requires.1)
-
-pub put_part-requires-2 : goal.put_part-requires-2
-put_part-requires-2 c = (omega (arith, c.requires.1), omega (arith, c.requires.0.key))
-
-pub overflow_mul-n : goal.overflow_mul-n
-overflow_mul-n c = omega (arith, c.requires.0.key)
-
-pub overflow_add-at-2 : goal.overflow_add-at-2
-overflow_add-at-2 c = omega (arith, c.requires.1)
-
-pub put_part-requires-3 : goal.put_part-requires-3
-put_part-requires-3 c = (omega (arith, c.requires.1), omega (arith, c.requires.0.inner))
-
-pub overflow_mul-n-2 : goal.overflow_mul-n-2
-overflow_mul-n-2 c = omega (arith, c.requires.0.key)
-
-pub overflow_add-at-3 : goal.overflow_add-at-3
-overflow_add-at-3 c = omega (arith, c.requires.1)
-
-pub overflow_add-at-4 : goal.overflow_add-at-4
-overflow_add-at-4 c = omega (arith, c.requires.1)
-
-pub overflow_mul-m : goal.overflow_mul-m
-overflow_mul-m c = omega (arith, c.requires.0.inner)
-
-pub put_part-requires-4 : goal.put_part-requires-4
-put_part-requires-4 c = (omega (arith, c.requires.1), omega (arith, c.requires.0.inner))
-
 pub returns : goal.returns
 returns c =
     let a = c.args in

@@ -1,6 +1,5 @@
 -- `pair_frames::frame::read_header` meets its contract: each return rewrites with the tests that led there.
 use mathlib.Core.Path.{sym, ◌∙◌}
-use native.Mathlib.Omega.{arith}
 use borrow.Author.Tests.{lt-ltb, le-ltb, eq-eqb, ne_eqb}
 use Rattle.pair_model.specs.Header.{read_header}
 use Rattle.pair_frames.proofs.frame.read_header.Goals as goal
@@ -9,9 +8,6 @@ pub returns-then-f-lt-HEADER_BYTES : goal.returns-then-f-lt-HEADER_BYTES
 unfolding read_header
 returns-then-f-lt-HEADER_BYTES c = simp (lt-ltb _ _ c.if-f-lt-HEADER_BYTES.true)
 
-pub bounds-f-0 : goal.bounds-f-0
-bounds-f-0 c = omega (arith, c.if-f-lt-HEADER_BYTES.false)
-
 pub returns-then-kind-lowest : goal.returns-then-kind-lowest
 unfolding read_header
 returns-then-kind-lowest c = simp (le-ltb _ _ c.if-f-lt-HEADER_BYTES.false, lt-ltb _ _ c.if-kind-lowest.true)
@@ -19,9 +15,6 @@ returns-then-kind-lowest c = simp (le-ltb _ _ c.if-f-lt-HEADER_BYTES.false, lt-l
 pub returns-then-highest-kind : goal.returns-then-highest-kind
 unfolding read_header
 returns-then-highest-kind c = simp (le-ltb _ _ c.if-f-lt-HEADER_BYTES.false, le-ltb _ _ c.if-kind-lowest.false, lt-ltb _ _ c.if-highest-kind.true)
-
-pub frame_bytes-requires : goal.frame_bytes-requires
-frame_bytes-requires c = c.requires
 
 pub returns-then-f-frame_bytes : goal.returns-then-f-frame_bytes
 unfolding read_header
@@ -32,18 +25,6 @@ returns-then-f-frame_bytes c =
       le-ltb _ _ c.if-highest-kind.false,
       ne_eqb _ _ (λ e. c.if-f-frame_bytes.true (e ∙ sym c.frame_bytes.ensures)),
     )
-
-pub bounds-f-1 : goal.bounds-f-1
-bounds-f-1 c = omega (arith, c.if-f-lt-HEADER_BYTES.false)
-
-pub session_of-requires : goal.session_of-requires
-session_of-requires c = c.if-f-lt-HEADER_BYTES.false
-
-pub line_of-requires : goal.line_of-requires
-line_of-requires c = c.if-f-lt-HEADER_BYTES.false
-
-pub overflow_sub-result : goal.overflow_sub-result
-overflow_sub-result c = c.if-f-lt-HEADER_BYTES.false
 
 pub returns : goal.returns
 unfolding read_header

@@ -1,26 +1,17 @@
 -- `pair_matrix::rows::write_code` meets its contract: the product of the sizes' layout, whose rows have two planes.
-use mathlib.Core.Path.{◌≡◌, ap, sym, subst, ◌∙◌}
+use mathlib.Core.Path.{◌≡◌, ap, sym, ◌∙◌}
 use mathlib.Core.List.{◌++◌}
-use Prim.Native.Nat.{◌*◌, ◌/◌, ◌≤◌}
+use Prim.Native.Nat.{◌*◌, ◌/◌}
 use native.Mathlib.Omega.{arith}
-use lib.ListN.{length, drop}
+use lib.ListN.{drop}
 use Rattle.linear_model.specs.Products.{matrix_product}
 use Rattle.matrix_model.specs.Block.{Layout}
-use Rattle.matrix_model.specs.File.{Fits, file_size, row_plane_of, code_plane_of, rows_of}
+use Rattle.matrix_model.specs.File.{row_plane_of, code_plane_of, rows_of}
 use Rattle.pair_frames.specs.Schemes.{file_layout, scheme_in}
 use Rattle.pair_model.specs.Scheme.{files}
 use Rattle.pair_model.specs.Evaluator.{code_of}
 use Rattle.pair_model.proofs.Theorem.ShareLaws.{bytes_code}
 use Rattle.pair_matrix.proofs.rows.write_code.Goals as goal
-
-pub code_of-requires : goal.code_of-requires
-code_of-requires c =
-    let a = c.args in
-    let p = c.requires in
-    subst
-    (λ (l : Layout).
-    Fits l × (length a.file.now ≡ file_size l) × (length a.v.now ≡ l.row_bytes) × (2 * code_plane_of l ≤ length a.out.now))
-    (sym c.file_layout.ensures) (p.0.file, p.1, p.2, p.3)
 
 pub returns : goal.returns
 unfolding code_of

@@ -18,13 +18,13 @@ returns c =
     let d = a.s.now in
     let n = a.sizes.key_bytes in
     let m = a.sizes.inner_bytes in
-    let key = c.requires.0.key in
-    let inner = c.requires.0.inner in
-    let f0 = front_kept (room_place 2) d (omega (arith, c.requires.1)) in
-    let f1 = room_kept f0 string_room n _ key (omega (arith, c.requires.1)) c.keep_room.ensures in
-    let f2 = room_kept f1 string_room n _ key (omega (arith, c.requires.1)) c.keep_room-2.ensures in
-    let f3 = room_kept f2 string_room m _ inner (omega (arith, c.requires.1)) c.keep_room-3.ensures in
-    let f4 = room_kept f3 trits_room (2 * m) _ (omega (arith, inner)) (omega (arith, c.requires.1)) c.keep_room-4.ensures in
+    let key = c.args.sizes.fits.key in
+    let inner = c.args.sizes.fits.inner in
+    let f0 = front_kept (room_place 2) d (omega (arith, c.requires)) in
+    let f1 = room_kept f0 string_room n _ key (omega (arith, c.requires)) c.keep_room.ensures in
+    let f2 = room_kept f1 string_room n _ key (omega (arith, c.requires)) c.keep_room-2.ensures in
+    let f3 = room_kept f2 string_room m _ inner (omega (arith, c.requires)) c.keep_room-3.ensures in
+    let f4 = room_kept f3 trits_room (2 * m) _ (omega (arith, inner)) (omega (arith, c.requires)) c.keep_room-4.ensures in
     fields_front f4
     ∙ (λ i.
     concat

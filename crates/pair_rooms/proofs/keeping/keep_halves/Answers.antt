@@ -18,10 +18,10 @@ returns c =
     let a = c.args in
     let d = a.s.now in
     let n = a.sizes.key_bytes in
-    let fits = c.requires.0.key in
+    let fits = c.args.sizes.fits.key in
     let h : List ℕ = state_header a.sizes.set (parameters_in a.parameters) a.stage in
-    let f1 = header-first a.sizes.set (parameters_in a.parameters) a.stage d _ c.requires.1 c.put_header.ensures in
-    let f2 = room_kept f1 string_room n _ fits (omega (arith, c.requires.1)) c.keep_room.ensures in
-    let f3 = room_kept f2 string_room n _ fits (omega (arith, c.requires.1)) c.keep_room-2.ensures in
+    let f1 = header-first a.sizes.set (parameters_in a.parameters) a.stage d _ c.requires c.put_header.ensures in
+    let f2 = room_kept f1 string_room n _ fits (omega (arith, c.requires)) c.keep_room.ensures in
+    let f3 = room_kept f2 string_room n _ fits (omega (arith, c.requires)) c.keep_room-2.ensures in
     fields_front f3
     ∙ (λ i. concat (h ∷ in_room string_room (front_at d 0 n (lit< tt) fits i) ∷ in_room string_room (front_at d 1 n (lit< tt) fits i) ∷ []) ++ drop (room_place 2) d)

@@ -86,5 +86,5 @@ module _ (S : Scheme) (f : List ℕ) (long : length f ≡ frame_bytes S deal_kin
 pub returns : goal.returns
 returns c =
     let a = c.args in
-    dealt (scheme_in a.sizes) a.f.now c.requires.1 c.requires.0.key c.requires.0.inner a.s.now _ _ _ _ c.requires.2
+    dealt (scheme_in a.sizes) a.f.now c.requires.0 c.args.sizes.fits.key c.args.sizes.fits.inner a.s.now _ _ _ _ c.requires.1
     c.put_room.ensures c.put_room-2.ensures c.put_room-3.ensures c.put_room-4.ensures

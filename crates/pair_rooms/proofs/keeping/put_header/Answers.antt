@@ -8,6 +8,7 @@ use lib.Seq.{drop-drop}
 use Rattle.linear_model.proofs.Copies.{pasted}
 use Rattle.pair_model.specs.Frame.{Parameters, header, header_bytes}
 use Rattle.pair_model.specs.StateSlice.{state_header, state_header_bytes}
+use Rattle.std.proofs.lemmas.Grind.{common_steps}
 use Rattle.pair_rooms.proofs.keeping.put_header.Goals as goal
 
 -- the first byte exchanged
@@ -25,4 +26,4 @@ headed x stage p head s o h e q =
 pub returns : goal.returns
 returns c =
     let a = c.args in
-    headed a.set a.stage _ _ a.s.now _ (omega (arith, c.requires)) c.header_bytes-head.ensures c.put.ensures
+    headed a.set a.stage _ _ a.s.now _ (omega (arith, c.requires)) c.header_bytes.ensures (grind (arith, common_steps))

@@ -55,15 +55,15 @@ deal_in_place-requires c =
     let S = scheme_in a.sizes in
     let lent = files a.file.now in
     let n = length a.out.now in
-    (c.requires.0, c.requires.1, long S a.state.now a.f.now lent n c.requires.2 1 c.if-stage-eq-WAITS_FOR_DEAL.true, (accepted S a.state.now a.f.now lent n c.requires.2).room)
+    (c.requires.0, long S a.state.now a.f.now lent n c.requires.1 1 c.in-1.is, (accepted S a.state.now a.f.now lent n c.requires.1).room)
 
-pub returns-then-stage-eq-WAITS_FOR_DEAL : goal.returns-then-stage-eq-WAITS_FOR_DEAL
-returns-then-stage-eq-WAITS_FOR_DEAL c =
+pub returns-in-1 : goal.returns-in-1
+returns-in-1 c =
     let a = c.args in
     let S = scheme_in a.sizes in
     let u = decode_as S a.state.now in
     let b = body_of a.f.now in
-    let e = advance-deal S u b (files a.file.now) (waits S a.state.now 1 c.if-stage-eq-WAITS_FOR_DEAL.true) in
+    let e = advance-deal S u b (files a.file.now) (waits S a.state.now 1 c.in-1.is) in
     moved _ _ _ _ a.out.now _ e (c.frame_bytes.ensures ∙ deal-length S u b) c.deal_in_place.ensures.state c.deal_in_place.ensures.output
 
 pub open_in_place-requires : goal.open_in_place-requires
@@ -72,16 +72,16 @@ open_in_place-requires c =
     let S = scheme_in a.sizes in
     let lent = files a.file.now in
     let n = length a.out.now in
-    (c.requires.0, c.requires.1, long S a.state.now a.f.now lent n c.requires.2 2 c.if-stage-eq-WAITS_FOR_OPEN.true, (accepted S a.state.now a.f.now lent n c.requires.2).room)
+    (c.requires.0, long S a.state.now a.f.now lent n c.requires.1 2 c.in-2.is, (accepted S a.state.now a.f.now lent n c.requires.1).room)
 
-pub returns-then-stage-eq-WAITS_FOR_OPEN : goal.returns-then-stage-eq-WAITS_FOR_OPEN
-returns-then-stage-eq-WAITS_FOR_OPEN c =
+pub returns-in-2 : goal.returns-in-2
+returns-in-2 c =
     let a = c.args in
     let S = scheme_in a.sizes in
     let u = decode_as S a.state.now in
     let b = body_of a.f.now in
-    let e = advance_open S u b (files a.file.now) no_files refl (waits S a.state.now 2 c.if-stage-eq-WAITS_FOR_OPEN.true) in
-    moved _ _ _ _ a.out.now _ e (c.frame_bytes-then-stage-eq-WAITS_FOR_OPEN.ensures ∙ open_length S u b no_files) c.open_in_place.ensures.state c.open_in_place.ensures.output
+    let e = advance_open S u b (files a.file.now) no_files refl (waits S a.state.now 2 c.in-2.is) in
+    moved _ _ _ _ a.out.now _ e (c.frame_bytes-in-2.ensures ∙ open_length S u b no_files) c.open_in_place.ensures.state c.open_in_place.ensures.output
 
 pub mask_in_place-requires : goal.mask_in_place-requires
 mask_in_place-requires c =
@@ -91,16 +91,16 @@ mask_in_place-requires c =
     let f = a.f.now in
     let lent = files a.file.now in
     let n = length a.out.now in
-    let m = last S t f lent n c.requires.2 c.if-stage-eq-WAITS_FOR_DEAL.false c.if-stage-eq-WAITS_FOR_OPEN.false in
-    (c.requires.0, c.requires.1, long S t f lent n c.requires.2 3 m, share_fits S t f lent n c.requires.2 c.requires.0.share, read S t f lent n c.requires.2 m)
+    let m = last S t f lent n c.requires.1 (omega arith) (omega arith) in
+    (c.requires.0, long S t f lent n c.requires.1 3 m, share_fits S t f lent n c.requires.1 c.args.sizes.fits.share, read S t f lent n c.requires.1 m)
 
-pub returns : goal.returns
-returns c =
+pub returns-in_default : goal.returns-in_default
+returns-in_default c =
     let a = c.args in
     let S = scheme_in a.sizes in
     let lent = files a.file.now in
     let u = decode_as S a.state.now in
     let b = body_of a.f.now in
-    let m = last S a.state.now a.f.now lent (length a.out.now) c.requires.2 c.if-stage-eq-WAITS_FOR_DEAL.false c.if-stage-eq-WAITS_FOR_OPEN.false in
+    let m = last S a.state.now a.f.now lent (length a.out.now) c.requires.1 (omega arith) (omega arith) in
     let e = advance-mask S u b lent (waits S a.state.now 3 m) in
-    moved _ _ _ _ a.out.now _ e (c.frame_bytes-2.ensures ∙ share-length S u b lent) c.mask_in_place.ensures.state c.mask_in_place.ensures.output
+    moved _ _ _ _ a.out.now _ e (c.frame_bytes-in_default.ensures ∙ share-length S u b lent) c.mask_in_place.ensures.state c.mask_in_place.ensures.output

@@ -88,10 +88,10 @@ returns c =
     let d = a.state.now in
     let f = a.f.now in
     let S = scheme_in a.sizes in
-    let key = c.requires.0.key in
-    let has_room = has_room_in a.sizes c.requires.0 in
+    let key = c.args.sizes.fits.key in
+    let has_room = has_room_in a.sizes in
     let t = c.parameters_of-parameters.ensures in record {
-      state = next S has_room d f _ t _ _ _ c.requires.1 c.keep_halves.ensures c.put_deal.ensures c.clear_between.ensures;
+      state = next S has_room d f _ t _ _ _ c.requires.0 c.keep_halves.ensures c.put_deal.ensures c.clear_between.ensures;
       output = c.write_open_frame.ensures
           ∙ written S has_room d f _ t _ _ _ _ a.out.now (part_at d 0 S.key_bytes (lit< tt) key) (part_at d 1 S.key_bytes (lit< tt) key) (key-dealt S has_room d f _ t) (label-dealt S has_room d f _ t);
     }

@@ -41,11 +41,11 @@ returns c =
     let S = scheme_in a.sizes in
     let u = a.state.now in
     let lent = files a.file.now in
-    let inner = c.requires.0.inner in
-    let has_room = has_room_in a.sizes c.requires.0 in
+    let inner = c.args.sizes.fits.inner in
+    let has_room = has_room_in a.sizes in
     let t = c.parameters_of-parameters.ensures in record {
       state = c.clear.ensures ∙ encode_nothing S has_room S.set _ 4 ∙ next S u a.f.now lent _ t;
       output = c.write_share_frame.ensures
-          ∙ written S u a.f.now lent _ t _ _ _ a.out.now (part_at u 6 S.inner_bytes (lit< tt) inner) (body S a.f.now c.requires.2)
+          ∙ written S u a.f.now lent _ t _ _ _ a.out.now (part_at u 6 S.inner_bytes (lit< tt) inner) (body S a.f.now c.requires.1)
           (part_at u 5 (2 * S.inner_bytes) (lit< tt) (omega (arith, inner)));
     }

@@ -76,6 +76,6 @@ returns c =
     let a = c.args in
     let S = scheme_in a.sizes in
     let d = a.state.now in
-    let has_room = has_room_in a.sizes c.requires.0 in
+    let has_room = has_room_in a.sizes in
     let t = c.parameters_of-parameters.ensures in
-    let w = c.write_mask_frame.ensures in record { state = next S has_room d a.f.now _ t _ _ _ _ c.requires.1 (body_is S has_room d a.f.now _ t _ a.out.now w) c.keep_halves.ensures c.keep_deal.ensures c.put_room.ensures; output = w }
+    let w = c.write_mask_frame.ensures in record { state = next S has_room d a.f.now _ t _ _ _ _ c.requires.0 (body_is S has_room d a.f.now _ t _ a.out.now w) c.keep_halves.ensures c.keep_deal.ensures c.put_room.ensures; output = w }

@@ -14,6 +14,7 @@ use Rattle.pair_model.specs.Unit.{take_open}
 use Rattle.pair_model.specs.StateSlice.{decode_as}
 use Rattle.pair_model.proofs.Internal.Lengths.{open_length}
 use Rattle.pair_model.proofs.Internal.FieldCopies.{fields_none, fields_more, fields_front}
+use Rattle.std.proofs.lemmas.Grind.{common_steps}
 use Rattle.pair_slices.proofs.slices.write_mask_frame.Goals as goal
 
 -- a string o with a header at its front, and then m bytes behind it written in place
@@ -46,12 +47,14 @@ mask_fits S o e h = omega arith
 pub write_mask_of-requires : goal.write_mask_of-requires
 write_mask_of-requires c =
     let a = c.args in
-    let z = a.sizes in (
+    let z = a.sizes in
+    let o = a.out.now in
+    let o₁ : List ℕ = c.copy_from_slice.new.self ++ drop header_bytes o in
+    let kept : length o₁ ≡ length o = grind (arith, common_steps) in (
       c.requires.0,
-      c.requires.1,
       ap (λ (t : Parameters). t.side) c.parameters_of-parameters.ensures,
-      c.requires.2,
-      lent_long z.inner_bytes a.out.now c.put.new.out (mask_fits (scheme_in z) a.out.now c.requires.0.circulant c.requires.3) c.put.auto.out,
+      c.requires.1,
+      lent_long z.inner_bytes o o₁ (mask_fits (scheme_in z) o z.fits.circulant c.requires.2) kept,
     )
 
 pub returns : goal.returns
@@ -61,11 +64,12 @@ returns c =
     let S = scheme_in a.sizes in
     let m = a.sizes.inner_bytes in
     let o = a.out.now in
-    let is = c.header_bytes-head.ensures in
-    let o₁ = c.put.new.out in
+    let is = c.header_bytes.ensures in
+    let o₁ : List ℕ = c.copy_from_slice.new.self ++ drop header_bytes o in
     let ŵi = c.write_mask_of.new.out in
-    let room = mask_fits S o c.requires.0.circulant c.requires.3 in
-    let kept = c.put.auto.out in
+    let room = mask_fits S o a.sizes.fits.circulant c.requires.2 in
+    let kept : length o₁ ≡ length o = grind (arith, common_steps) in
+    let head : o₁ ≡ pasted 0 c.header_bytes.result o = grind (arith, common_steps) in
     let lw = c.write_mask_of.auto.out ∙ lent_long m o o₁ room kept in
-    framed_is m o o₁ room kept ŵi lw c.header_bytes-head.result (ap length is) c.put.ensures
+    framed_is m o o₁ room kept ŵi lw c.header_bytes.result (ap length is) head
     ∙ written S a.state.now a.f.now _ c.parameters_of-parameters.ensures _ ŵi o is c.write_mask_of.ensures

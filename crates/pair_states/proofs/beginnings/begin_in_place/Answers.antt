@@ -34,8 +34,8 @@ pub returns : goal.returns
 returns c =
     let a = c.args in
     let p = c.requires in
-    let f1 = header-first a.sizes.set (parameters_in a.parameters) deal_kind a.s.now _ p.1 c.put_header.ensures in
-    let f2 = room_more f1 string_room a.key.now _ (half_fits a.key.now p.2 p.0.key) (omega (arith, p.1)) c.put_room.ensures in
-    let f3 = room_more f2 string_room a.label.now _ (half_fits a.label.now p.3 p.0.key) (omega (arith, p.1)) c.put_room-2.ensures in
-    then_blank f3 (drop 2 rooms) _ p.1 c.clear_between.ensures
-    ∙ encode_begun (scheme_in a.sizes) (has_room_in a.sizes p.0) (parameters_in a.parameters) a.key.now a.label.now
+    let f1 = header-first a.sizes.set (parameters_in a.parameters) deal_kind a.s.now _ p.0 c.put_header.ensures in
+    let f2 = room_more f1 string_room a.key.now _ (half_fits a.key.now p.1 a.sizes.fits.key) (omega (arith, p.0)) c.put_room.ensures in
+    let f3 = room_more f2 string_room a.label.now _ (half_fits a.label.now p.2 a.sizes.fits.key) (omega (arith, p.0)) c.put_room-2.ensures in
+    then_blank f3 (drop 2 rooms) _ p.0 c.clear_between.ensures
+    ∙ encode_begun (scheme_in a.sizes) (has_room_in a.sizes) (parameters_in a.parameters) a.key.now a.label.now

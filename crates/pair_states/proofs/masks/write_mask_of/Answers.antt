@@ -35,8 +35,8 @@ returns c =
     let u = a.state.now in
     let n = S.key_bytes in
     let m = S.inner_bytes in
-    let key = c.requires.0.key in
-    let inner = c.requires.0.inner in
+    let key = c.args.sizes.fits.key in
+    let inner = c.args.sizes.fits.inner in
     c.write_own_mask.ensures
-    ∙ own-mask S u a.f.now a.side _ _ _ _ _ c.requires.2 (part_at u 0 n (lit< tt) key) (part_at u 1 n (lit< tt) key)
+    ∙ own-mask S u a.f.now a.side _ _ _ _ _ c.requires.1 (part_at u 0 n (lit< tt) key) (part_at u 1 n (lit< tt) key)
     (part_at u 2 n (lit< tt) key) (part_at u 3 n (lit< tt) key) (part_at u 4 m (lit< tt) inner)

@@ -1,4 +1,11 @@
 -- `pair_steps::step::step_slice` meets its contract: the number decides, and then the slice moves on.
+use mathlib.Core.Logic.{◌≢◌}
+use Rattle.std.proofs.Common.{Result}
+use Rattle.std.specs.Result.{IfOk, IsErr}
+use Rattle.std.proofs.lemmas.Result.{IfOk-from_err}
+use Rattle.numbers.specs.Refusals.{answer_number}
+use Rattle.numbers.specs.declared.refusal.Refusal.{Refusal}
+use Rattle.numbers.proofs.Refusals.{refused, passed_on}
 use mathlib.Core.Path.{◌≡◌, sym, ap, ◌∙◌}
 use mathlib.Core.List.{List}
 use mathlib.Core.Bool.{cond}
@@ -24,23 +31,28 @@ module _ (S : Scheme) (s f : List ℕ) (lent : Files) (n : ℕ) where
   abbrev taken : Stepped
   taken = step S (decode_as S s) f lent n
 
-  -- a step that is refused
-  left : (o : List ℕ) (r : ℕ) → r ≡ number_for S (decode_as S s) f lent n → (r ≡ 0 → ⊥)
-      → record { result : r ≡ taken.result; state : s ≡ cond (eqb r 0) (encode_state taken.next) s; output : o ≡ at_front taken.written o; count : 0 ≡ length taken.written }
-  left o r e z =
+  -- a step that is refused leaves the slice, and writes nothing
+  left : (o : List ℕ) (r : Result ℕ Refusal) → answer_number r ≡ number_for S (decode_as S s) f lent n → answer_number r ≢ 0 → IsErr r
+      → record {
+        result : answer_number r ≡ taken.result;
+        state : s ≡ cond (eqb (answer_number r) 0) (encode_state taken.next) s;
+        output : o ≡ at_front taken.written o;
+        count : IfOk r (λ n. n ≡ length taken.written);
+      }
+  left o r e z h =
       let number = step_result S (decode_as S s) f lent n in
       let is = step-refused S (decode_as S s) f lent n (λ q. z (e ∙ sym number ∙ q)) in
       record {
         result = e ∙ sym number;
-        state = rw (ne_eqb r 0 z);
+        state = rw (ne_eqb (answer_number r) 0 z);
         output = ap (λ (x : Stepped). at_front x.written o) (sym is);
-        count = ap (λ (x : Stepped). length x.written) (sym is);
+        count = IfOk-from_err r (λ n. n ≡ length taken.written) h;
       }
 
   -- one that is accepted
   moved : (o state out : List ℕ) (count : ℕ) → number_for S (decode_as S s) f lent n ≡ 0 → let a = advance S (decode_as S s) (body_of f) lent in
       (count ≡ length a.written) × ((state ≡ encode_state a.next) × (out ≡ at_front a.written o))
-      → record { result : 0 ≡ taken.result; state : state ≡ cond (eqb 0 0) (encode_state taken.next) s; output : out ≡ at_front taken.written o; count : count ≡ length taken.written }
+      → record { result : 0 ≡ taken.result; state : state ≡ encode_state taken.next; output : out ≡ at_front taken.written o; count : count ≡ length taken.written }
   moved o state out count z h =
       let number = step_result S (decode_as S s) f lent n in
       let is = step-accepted S (decode_as S s) f lent n z in
@@ -51,23 +63,24 @@ module _ (S : Scheme) (s f : List ℕ) (lent : Files) (n : ℕ) where
         count = h.0 ∙ ap (λ (x : Stepped). length x.written) (sym is);
       }
 
-pub returns-then-number-ne-DONE : goal.returns-then-number-ne-DONE
-returns-then-number-ne-DONE c =
+pub returns-in_err-check_step : goal.returns-in_err-check_step
+returns-in_err-check_step c =
     let a = c.args in
     let S = scheme_in a.sizes in
     let s = a.state.now in
     let lent = files a.file.now in
     let n = length a.out.now in
-    left S s a.f.now lent n a.out.now _ (c.step_number-number.ensures ∙ of_state S s a.f.now lent n _ c.parameters_of.ensures) c.if-number-ne-DONE.true
+    let r = c.from_residual in
+    let why = passed_on _ _ r.ensures in
+    left S s a.f.now lent n a.out.now r.result (why ∙ c.in_err-check_step.ensures ∙ of_state S s a.f.now lent n _ c.parameters_of.ensures) (refused _ (sym why)) r.ensures.0
 
 pub advance_slice-requires : goal.advance_slice-requires
 advance_slice-requires c =
     let a = c.args in
     let s = a.state.now in (
-      c.requires.0,
-      c.requires.1,
+      c.requires,
       ap (λ (x : Parameters). step_number (scheme_in a.sizes) x (kind_of s) a.f.now (files a.file.now) (length a.out.now)) (sym c.parameters_of.ensures)
-          ∙ sym c.step_number-number.ensures ∙ c.if-number-ne-DONE.false,
+          ∙ sym c.in_ok-check_step.ensures,
     )
 
 pub returns : goal.returns
@@ -77,5 +90,5 @@ returns c =
     let s = a.state.now in
     let lent = files a.file.now in
     let n = length a.out.now in
-    let e = c.step_number-number.ensures ∙ of_state S s a.f.now lent n _ c.parameters_of.ensures in
-    moved S s a.f.now lent n a.out.now _ _ _ (sym e ∙ c.if-number-ne-DONE.false) (let e = c.advance_slice.ensures in (e.count, (e.state, e.output)))
+    let e = c.in_ok-check_step.ensures ∙ of_state S s a.f.now lent n _ c.parameters_of.ensures in
+    moved S s a.f.now lent n a.out.now _ _ _ (sym e) (let e = c.advance_slice.ensures in (e.count, (e.state, e.output)))

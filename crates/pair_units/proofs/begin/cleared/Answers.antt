@@ -1,9 +1,7 @@
 -- `pair_units::begin::cleared` meets its contract: both halves are zeros too.
-use mathlib.Core.Path.{sym, ap, ◌∙◌}
+use mathlib.Core.Path.{ap, ◌∙◌}
 use mathlib.Core.List.{List}
 use Prim.Native.Nat.{ℕ}
-use lib.Seq.{length-take-le}
-use Rattle.linear_model.specs.Bits.{zeros}
 use Rattle.pair_frames.specs.Headers.{parameters_in}
 use Rattle.pair_frames.specs.Schemes.{scheme_in}
 use Rattle.pair_frames.proofs.Fronts.{zeros-front}
@@ -12,20 +10,9 @@ use Rattle.pair_model.specs.StateSlice.{string_room}
 use Rattle.pair_units.specs.Units.{unit_of}
 use Rattle.pair_units.proofs.begin.cleared.Goals as goal
 
-pub slice_bounds-zeros-end : goal.slice_bounds-zeros-end
-slice_bounds-zeros-end c = c.requires.key
-
-pub slice_bounds-half-end : goal.slice_bounds-half-end
-slice_bounds-half-end c = sym (length-take-le c.args.sizes.key_bytes (zeros string_room) c.requires.key)
-
-pub with_halves-requires : goal.with_halves-requires
-with_halves-requires c =
-    let l = length-take-le c.args.sizes.key_bytes (zeros string_room) c.requires.key in
-    (c.requires, l, l)
-
 pub returns : goal.returns
 returns c =
     let a = c.args in
     c.with_halves.ensures
     ∙ ap (λ (x : List ℕ). unit_of (state a.sizes.set (parameters_in a.parameters) a.stage (halves (scheme_in a.sizes) x x)))
-    (zeros-front a.sizes.key_bytes string_room c.requires.key)
+    (zeros-front a.sizes.key_bytes string_room c.args.sizes.fits.key)

@@ -6,12 +6,6 @@ use Rattle.pair_frames.proofs.Fronts.{zeros_room}
 use Rattle.pair_model.specs.StateSlice.{string_room, trits_room}
 use Rattle.pair_units.proofs.begin.with_halves.Goals as goal
 
-pub put-requires : goal.put-requires
-put-requires c = omega (arith, c.requires.1, c.requires.0.key)
-
-pub put-requires-2 : goal.put-requires-2
-put-requires-2 c = omega (arith, c.requires.2, c.requires.0.key)
-
 pub returns : goal.returns
 returns c =
     let a = c.args in
@@ -19,9 +13,9 @@ returns c =
     let m = a.sizes.inner_bytes in
     let key = room_copied string_room a.key.now _ c.put.ensures in
     let label = room_copied string_room a.label.now _ c.put-2.ensures in
-    let mask = zeros_room n string_room c.requires.0.key in
-    let inner = zeros_room m string_room c.requires.0.inner in
-    let trits = zeros_room (2 * m) trits_room (omega (arith, c.requires.0.inner)) in
+    let mask = zeros_room n string_room c.args.sizes.fits.key in
+    let inner = zeros_room m string_room c.args.sizes.fits.inner in
+    let trits = zeros_room (2 * m) trits_room (omega (arith, c.args.sizes.fits.inner)) in
     λ i. record {
       set = a.sizes.set;
       parameters = a.parameters;

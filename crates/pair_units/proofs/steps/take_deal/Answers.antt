@@ -10,7 +10,7 @@ use Rattle.linear_model.specs.Bits.{add_bits}
 use Rattle.pair_frames.specs.Headers.{parameters_in}
 use Rattle.pair_frames.specs.Schemes.{scheme_in}
 use Rattle.pair_frames.proofs.Parts.{field_part, field_is}
-use Rattle.pair_frames.proofs.Fronts.{prefix, prefix_long, zeros-front}
+use Rattle.pair_frames.proofs.Fronts.{zeros-front}
 use Rattle.pair_model.specs.Scheme.{layout_bytes, field, concat}
 use Rattle.pair_model.specs.Tape.{deal_layout}
 use Rattle.pair_model.specs.Frame.{open_kind, frame, frame_bytes, body_of, header_bytes}
@@ -19,7 +19,6 @@ use Rattle.pair_model.specs.StateSlice.{string_room, trits_room, in_room}
 use Rattle.pair_model.proofs.Internal.Encodings.{room_front}
 use Rattle.pair_model.proofs.Internal.Lengths.{deal-length}
 use Rattle.pair_units.specs.Units.{state_at}
-use Rattle.pair_units.proofs.Rooms.{full}
 use Rattle.pair_units.proofs.steps.take_deal.Goals as goal
 
 -- a field of the deal in the front of its room
@@ -29,39 +28,6 @@ front layout i k room f o h start l e =
     let n = get_or layout i 0 in
     ap (take n) e
     ∙ room_front room n (field layout i (body_of f)) (ap length (sym (field_is layout i header_bytes k f h start)) ∙ length-take-le n (drop k f) (rw length-drop (omega arith)))
-
-pub overflow_add-label_at : goal.overflow_add-label_at
-overflow_add-label_at c = omega (arith, c.requires.0.key)
-
-pub slice_bounds-key_part-end : goal.slice_bounds-key_part-end
-slice_bounds-key_part-end c = omega (arith, c.requires.1)
-
-pub overflow_add-label_part : goal.overflow_add-label_part
-overflow_add-label_part c = omega (arith, c.requires.0.key)
-
-pub slice_bounds-label_part-end : goal.slice_bounds-label_part-end
-slice_bounds-label_part-end c = omega (arith, c.requires.1)
-
-pub slice_bounds-key-end : goal.slice_bounds-key-end
-slice_bounds-key-end c = prefix c.args.u.key (full c.args.u _ c.well_formed.1.0).key c.requires.0.key
-
-pub slice_bounds-write_open_frame-end : goal.slice_bounds-write_open_frame-end
-slice_bounds-write_open_frame-end c = prefix_long c.args.sizes.key_bytes c.args.u.key (full c.args.u _ c.well_formed.1.0).key c.requires.0.key
-
-pub slice_bounds-label-end : goal.slice_bounds-label-end
-slice_bounds-label-end c = prefix c.args.u.label (full c.args.u _ c.well_formed.1.0).label c.requires.0.key
-
-pub slice_bounds-write_open_frame-end-2 : goal.slice_bounds-write_open_frame-end-2
-slice_bounds-write_open_frame-end-2 c = prefix_long c.args.sizes.key_bytes c.args.u.label (full c.args.u _ c.well_formed.1.0).label c.requires.0.key
-
-pub write_open_frame-requires : goal.write_open_frame-requires
-write_open_frame-requires c = (c.requires.0, c.requires.2)
-
-pub read_deal-d-requires : goal.read_deal-d-requires
-read_deal-d-requires c = (c.requires.0, omega (arith, c.requires.1))
-
-pub shape_of-out : goal.shape_of-out
-shape_of-out c = c.out-1.given
 
 pub returns : goal.returns
 unfolding take_deal
@@ -74,14 +40,14 @@ returns c =
     let o = a.out.now in
     let f = a.f.now in
     let p = parameters_in a.u.parameters in
-    let d = c.read_deal-d.ensures in
+    let d = c.read_deal.ensures in
     let K̃ = field_part (deal_layout S) 0 header_bytes header_bytes (header_bytes + n) f (lit< tt) (omega arith) (omega arith) in
     let x̃ = field_part (deal_layout S) 1 header_bytes (header_bytes + n) (header_bytes + n + n) f (lit< tt) (omega arith) (omega arith) in
-    let d0 = front (deal_layout S) 0 header_bytes string_room f _ (lit< tt) (omega arith) (omega (arith, c.requires.1)) d.key_mask in
-    let d1 = front (deal_layout S) 1 (header_bytes + n) string_room f _ (lit< tt) (omega arith) (omega (arith, c.requires.1)) d.label_mask in
-    let d2 = front (deal_layout S) 2 (header_bytes + 2 * n) string_room f _ (lit< tt) (omega arith) (omega (arith, c.requires.1)) d.z in
-    let d3 = front (deal_layout S) 3 (header_bytes + 2 * n + m) trits_room f _ (lit< tt) (omega arith) (omega (arith, c.requires.1)) d.r in
-    let none = zeros-front m string_room c.requires.0.inner in record {
+    let d0 = front (deal_layout S) 0 header_bytes string_room f _ (lit< tt) (omega arith) (omega (arith, c.requires.0)) d.key_mask in
+    let d1 = front (deal_layout S) 1 (header_bytes + n) string_room f _ (lit< tt) (omega arith) (omega (arith, c.requires.0)) d.label_mask in
+    let d2 = front (deal_layout S) 2 (header_bytes + 2 * n) string_room f _ (lit< tt) (omega arith) (omega (arith, c.requires.0)) d.z in
+    let d3 = front (deal_layout S) 3 (header_bytes + 2 * n + m) trits_room f _ (lit< tt) (omega arith) (omega (arith, c.requires.0)) d.r in
+    let none = zeros-front m string_room c.args.sizes.fits.inner in record {
       next = (λ i. state a.sizes.set p open_kind (record {
         key = u.secrets.key;
         label = u.secrets.label;

@@ -1,26 +1,17 @@
--- `pair_whole::run::run` meets its contract: an input without a number is run.
+-- `pair_whole::run::run` meets its contract: an input that nothing refuses is run.
 use mathlib.Core.Path.{sym, ◌∙◌}
-use native.Mathlib.Omega.{arith}
+use Rattle.numbers.proofs.Refusals.{passed_on, refused}
 use Rattle.numbers.proofs.Outputs.{output-refused}
 use Rattle.pair_model.proofs.Internal.Runs.{run_fits}
 use Rattle.pair_whole.proofs.run.run.Goals as goal
 
-pub returns-then-number-ne-DONE : goal.returns-then-number-ne-DONE
-returns-then-number-ne-DONE c =
+pub returns-in_err-check_run : goal.returns-in_err-check_run
+returns-in_err-check_run c =
+    let why = passed_on _ _ c.from_residual.ensures in
     record {
-      result = c.run_number-number.ensures;
-      output = output-refused _ _ _ c.if-number-ne-DONE.true;
+      result = why ∙ c.in_err-check_run.ensures;
+      output = output-refused _ _ _ (refused _ (sym why));
     }
 
 pub run_units-requires : goal.run_units-requires
-run_units-requires c = run_fits _ _ (sym c.run_number-number.ensures ∙ c.if-number-ne-DONE.false)
-
-pub shape_of-out : goal.shape_of-out
-shape_of-out c = omega arith
-
-pub returns : goal.returns
-returns c =
-    record {
-      result = sym c.if-number-ne-DONE.false ∙ c.run_number-number.ensures;
-      output = c.run_units.ensures;
-    }
+run_units-requires c = run_fits _ _ (sym c.in_ok-check_run.ensures)

@@ -1,13 +1,12 @@
 -- `pair_whole::run::run_units` meets its contract: its steps are those of a run in order, and its sum the join's.
-use mathlib.Core.Path.{sym, ap, ◌∙◌}
+use mathlib.Core.Path.{ap, ◌∙◌}
 use mathlib.Core.List.{List}
 use Prim.Native.Nat.{ℕ}
 use native.Mathlib.Omega.{arith}
 use native.Mathlib.Nat.{le_refl}
-use lib.Dec.{lit<, lit≤}
+use lib.Dec.{lit<}
 use lib.ListN.{length}
 use Rattle.numbers.specs.Number.{output}
-use Rattle.pair_frames.proofs.Bases.{fits_1}
 use Rattle.pair_model.specs.Scheme.{side0, side1}
 use Rattle.pair_model.specs.Base.{base}
 use Rattle.pair_model.specs.Frame.{code_bytes}
@@ -15,17 +14,8 @@ use Rattle.pair_model.proofs.Internal.Runs.{file_is}
 use Rattle.pair_model.proofs.Internal.Rounds.{sends, begun_is, deal_is, open_is, open_accepted, mask_is, share_is, join_is}
 use Rattle.pair_whole.proofs.run.run_units.Goals as goal
 
-pub slice_bounds-file-count : goal.slice_bounds-file-count
-slice_bounds-file-count c = lit≤ tt
-
-pub slice_bounds-file-start : goal.slice_bounds-file-start
-slice_bounds-file-start c = lit≤ tt
-
-pub slice_bounds-file-end : goal.slice_bounds-file-end
-slice_bounds-file-end c = omega (arith, c.requires.long)
-
-pub first_round-one-requires : goal.first_round-one-requires
-first_round-one-requires c =
+pub first_round-requires : goal.first_round-requires
+first_round-requires c =
     let f = c.requires in
     record {
       long = f.long;
@@ -34,35 +24,23 @@ first_round-one-requires c =
       tape = f.tape;
     }
 
-pub exchange-two-requires : goal.exchange-two-requires
-exchange-two-requires c =
+pub exchange-requires : goal.exchange-requires
+exchange-requires c =
     let x = c.args.input.now in
     let n = length c.args.out.now in
     let f = c.requires in
     let k : (i : ℕ) → _ = λ i. (c.type_inv.input i).fits in
-    let a0 = sends x n f k side0 0 (lit< tt) _ _ (begun_is x n f k side0) (deal_is x n f k side0) c.first_round-one.ensures.first in
-    let a1 = sends x n f k side1 0 (lit< tt) _ _ (begun_is x n f k side1) (deal_is x n f k side1) c.first_round-one.ensures.second in (
+    let a0 = sends x n f k side0 0 (lit< tt) _ _ (begun_is x n f k side0) (deal_is x n f k side0) c.first_round.ensures.first in
+    let a1 = sends x n f k side1 0 (lit< tt) _ _ (begun_is x n f k side1) (deal_is x n f k side1) c.first_round.ensures.second in (
       open_accepted x n f k side0 _ _ _ a0.next_is (open_is x n f k side0 _ a1.sent_is) (file_is x),
       open_accepted x n f k side1 _ _ _ a1.next_is (open_is x n f k side1 _ a0.sent_is) (file_is x),
     )
-
-pub share_frame-share0-requires : goal.share_frame-share0-requires
-share_frame-share0-requires c = omega (arith, c.requires.long)
-
-pub share_frame-share1-requires : goal.share_frame-share1-requires
-share_frame-share1-requires c = omega (arith, c.requires.long)
-
-pub slice_bounds-add_shares-end : goal.slice_bounds-add_shares-end
-slice_bounds-add_shares-end c = sym c.share_frame-share0.type_inv.1.0.1
-
-pub slice_bounds-add_shares-end-2 : goal.slice_bounds-add_shares-end-2
-slice_bounds-add_shares-end-2 c = sym c.share_frame-share1.type_inv.1.0.1
 
 pub add_shares-requires : goal.add_shares-requires
 add_shares-requires c =
     let s0 = c.share_frame-share0 in
     let s1 = c.share_frame-share1 in
-    (fits_1, s0.type_inv.1.0.1, s1.type_inv.1.0.1, c.requires.room_is)
+    (s0.type_inv.1.0.1, s1.type_inv.1.0.1, c.requires.room_is)
 
 pub shape_of-out : goal.shape_of-out
 shape_of-out c = omega arith
@@ -73,10 +51,10 @@ returns c =
     let n = length c.args.out.now in
     let f = c.requires in
     let k : (i : ℕ) → _ = λ i. (c.type_inv.input i).fits in
-    let a0 = sends x n f k side0 0 (lit< tt) _ _ (begun_is x n f k side0) (deal_is x n f k side0) c.first_round-one.ensures.first in
-    let a1 = sends x n f k side1 0 (lit< tt) _ _ (begun_is x n f k side1) (deal_is x n f k side1) c.first_round-one.ensures.second in
-    let b0 = sends x n f k side0 1 (lit< tt) _ _ a0.next_is (open_is x n f k side0 _ a1.sent_is) (rw (file_is x) at c.exchange-two.ensures.first) in
-    let b1 = sends x n f k side1 1 (lit< tt) _ _ a1.next_is (open_is x n f k side1 _ a0.sent_is) (rw (file_is x) at c.exchange-two.ensures.second) in
+    let a0 = sends x n f k side0 0 (lit< tt) _ _ (begun_is x n f k side0) (deal_is x n f k side0) c.first_round.ensures.first in
+    let a1 = sends x n f k side1 0 (lit< tt) _ _ (begun_is x n f k side1) (deal_is x n f k side1) c.first_round.ensures.second in
+    let b0 = sends x n f k side0 1 (lit< tt) _ _ a0.next_is (open_is x n f k side0 _ a1.sent_is) (rw (file_is x) at c.exchange.ensures.first) in
+    let b1 = sends x n f k side1 1 (lit< tt) _ _ a1.next_is (open_is x n f k side1 _ a0.sent_is) (rw (file_is x) at c.exchange.ensures.second) in
     let d0 = share_is x n f k side0 _ _ _ _ b0.next_is (mask_is x n f k side0 _ b1.sent_is) (file_is x) c.share_frame-share0.ensures in
     let d1 = share_is x n f k side1 _ _ _ _ b1.next_is (mask_is x n f k side1 _ b0.sent_is) (file_is x) c.share_frame-share1.ensures in
     c.add_shares.ensures ∙ ap (λ (y : List ℕ). output 0 y c.args.out.now) (join_is x n f k _ _ d0 d1)

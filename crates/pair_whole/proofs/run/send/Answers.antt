@@ -3,21 +3,17 @@ use mathlib.Core.Path.{sym, ap, ◌∙◌}
 use Rattle.linear_model.specs.Bits.{zeros}
 use Rattle.numbers.specs.Number.{at_front}
 use Rattle.pair_model.specs.Scheme.{files}
-use Rattle.pair_frames.specs.Schemes.{set_sizes}
-use Rattle.pair_frames.proofs.Bases.{fits_1}
+use Rattle.pair_frames.specs.Numbers.{set_sizes}
 use Rattle.pair_model.specs.Base.{base}
 use Rattle.pair_model.specs.Unit.{Stepped, least_output}
 use Rattle.pair_model.proofs.Theorem.StepLaws.{step-accepted}
-use Rattle.pair_units.specs.Units.{state_at}
+use Rattle.pair_units.specs.Units.{state_by}
 use Rattle.pair_whole.proofs.run.send.Goals as goal
-
-pub advance-a-requires : goal.advance-a-requires
-advance-a-requires c = (fits_1, c.requires)
 
 pub returns : goal.returns
 returns c =
-    let v = c.advance-a.ensures in
-    let e = sym (step-accepted base (state_at (set_sizes 1) c.args.u) c.args.f.now (files c.args.file.now) (least_output base) c.requires) in
+    let v = c.advance.ensures in
+    let e = sym (step-accepted base (state_by (set_sizes 1) c.args.u) c.args.f.now (files c.args.file.now) (least_output base) c.requires) in
     record {
       frame_is = v.output ∙ ap (λ (t : Stepped). at_front t.written (zeros (least_output base))) e;
       next_is = v.next ∙ ap (λ (t : Stepped). t.next) e;

@@ -69,7 +69,7 @@ returns-then-state-eq-STATE_BYTES c =
     let label = a.label.now in
     let long = c.if-state-eq-STATE_BYTES.true in
     let b = begin_long a.state.now long a.set t key label in
-    let number = c.begin_slice.ensures.result in
+    let number = c.answer_number.ensures ∙ c.begin_slice.ensures.result in
     let held = c.begin_slice.ensures.state in
     let next = ap decode_state (held ∙ b.1) ∙ decoded-begun a.set _ long t key label (record { session = omega arith; line = omega arith }) (λ i. (c.shared_slice_known-1.given i).fits) (λ i. (c.shared_slice_known-2-1.given i).fits) in
     record {
@@ -88,9 +88,11 @@ returns-then-state-eq-STATE_BYTES c =
 pub returns-then-is_set : goal.returns-then-is_set
 returns-then-is_set c =
     let a = c.args in
-    short a.set (parameters a.side a.session a.line) a.key.now a.label.now a.state.now c.if-state-eq-STATE_BYTES.false true (sym c.is_set.ensures ∙ c.if-is_set.true)
+    rw c.number.ensures
+    (short a.set (parameters a.side a.session a.line) a.key.now a.label.now a.state.now c.if-state-eq-STATE_BYTES.false true (sym c.is_set.ensures ∙ c.if-is_set.true))
 
 pub returns-else-is_set : goal.returns-else-is_set
 returns-else-is_set c =
     let a = c.args in
-    short a.set (parameters a.side a.session a.line) a.key.now a.label.now a.state.now c.if-state-eq-STATE_BYTES.false false (sym c.is_set.ensures ∙ c.if-is_set.false)
+    rw c.number-else-is_set.ensures
+    (short a.set (parameters a.side a.session a.line) a.key.now a.label.now a.state.now c.if-state-eq-STATE_BYTES.false false (sym c.is_set.ensures ∙ c.if-is_set.false))

@@ -2,23 +2,20 @@
 use mathlib.Core.Path.{◌≡◌, ap, ◌∙◌}
 use mathlib.Core.Bool.{cond}
 use lib.Dec.{eqb}
+use Prim.Native.Nat.{ℕ}
 use lib.ListN.{length}
 use Rattle.numbers.specs.Number.{at_front}
 use Rattle.numbers.specs.Sets.{counted}
 use Rattle.numbers.proofs.Sets.{counted-set}
-use Rattle.pair_frames.specs.Schemes.{scheme_in, set_sizes}
-use Rattle.pair_frames.proofs.Bases.{set_is, counted_fits}
+use Rattle.numbers.specs.Refusals.{answer_number}
+use Rattle.pair_frames.specs.Numbers.{scheme_by, set_sizes}
+use Rattle.pair_frames.specs.Schemes.{scheme_in}
+use Rattle.pair_frames.proofs.Bases.{set_is}
 use Rattle.pair_model.specs.Unit.{Stepped, step}
 use Rattle.pair_model.specs.Scheme.{files}
 use Rattle.pair_model.proofs.Evidence.Whole.{theorem_and_evidence}
-use Rattle.pair_units.specs.Units.{state_at, unit_of}
+use Rattle.pair_units.specs.Units.{state_at, state_by, unit_of}
 use Rattle.pair_units.proofs.state.UnitState.step.Goals as goal
-
-pub step_unit-requires : goal.step_unit-requires
-step_unit-requires c = counted_fits c.args.self.set c.sizes_of-sizes.ensures
-
-pub shape_of-out : goal.shape_of-out
-shape_of-out c = c.out-1.given
 
 pub returns : goal.returns
 returns c =
@@ -29,14 +26,15 @@ returns c =
     let f = a.f.now in
     let file = files a.file.now in
     let m = length a.out.now in
+    let n = z.ensures ∙ ap (λ (k : ℕ). set_sizes (counted k)) c.from.ensures in
     let e : step (scheme_in z.result) (state_at z.result a.self) f file m ≡ _ =
-    (λ i. step (scheme_in (z.ensures i)) (state_at (z.ensures i) a.self) f file m)
-    ∙ (λ i. step (set_is set (counted-set a.self.set) i) (state_at (set_sizes set) a.self) f file m) in
+    (λ i. step (scheme_by (n i)) (state_by (n i) a.self) f file m)
+    ∙ (λ i. step (set_is set (counted-set a.self.set) i) (state_by (set_sizes set) a.self) f file m) in
     let t = v.ensures in
     record {
       result = t.result ∙ ap (λ (s : Stepped). s.result) e;
       count = t.count ∙ ap (λ (s : Stepped). length s.written) e;
-      next = t.next ∙ ap (λ (s : Stepped). cond (eqb v.result.result 0) (unit_of s.next) a.self) e;
+      next = t.next ∙ ap (λ (s : Stepped). cond (eqb (answer_number v.result.result) 0) (unit_of s.next) a.self) e;
       output = t.output ∙ ap (λ (s : Stepped). at_front s.written a.out.now) e;
       correctness = theorem_and_evidence.0;
       privacy = theorem_and_evidence.1.0;
