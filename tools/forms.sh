@@ -10,7 +10,7 @@ if [ $# -gt 0 ]; then
     git archive "$1" crates | tar -x -C "$from"
 fi
 cd "$from"
-sources() { find crates -path '*/src/*.rt' | LC_ALL=C sort; }
+sources() { find crates -path '*/out' -prune -o -path '*/src/*.rt' -print | LC_ALL=C sort; }
 # places POINT REGEX WHAT: lines that match, comments left out
 places() {
     count=$(sources | xargs cat | grep -vE '^ *//' | grep -cE "$2" || true)

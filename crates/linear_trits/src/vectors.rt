@@ -3,6 +3,7 @@
 // it; shorter planes, and strings that are not all there, go byte by byte.
 ghost use Rattle.std.specs.Prelude.{◌≡◌, ℕ, ◌++◌, ◌+◌, ◌*◌, ◌/◌, ◌^◌, ◌<◌, ◌≤◌, length, drop};
 ghost use Rattle.linear_model.specs.Trits.{pack_trits};
+ghost use Rattle.linear_model.specs.Internal.Planes.{PlaneBits};
 ghost use Rattle.linear_trits.specs.Results.{Holds, result_trit};
 
 use crate::operation::Operation;
@@ -32,22 +33,52 @@ fn byte_trits(s: &[u8], high: usize, i: usize) -> Trits
     }
 }
 
+// What an operation gives of trits 8i to 8i + 63.
+fn combined_word<O: Operation>(op: O, a: &[u8], high: usize, b: &[u8], m: usize, i: usize) -> Trits
+    requires { (i + 8 ≤ length a.now) × (high + i + 8 ≤ length a.now) × (m + i + 8 ≤ length b.now) }
+    ensures { PlaneBits 64 (result_trit (O.trit op) high m a.now b.now) i result.low result.high }
+{
+    op.apply(word_trits(a, high, i), word_trits(b, m, i))
+}
+
 // What an operation gives of `a`, whose high plane begins at byte `high`, and of `b`, by words, in planes of `m` bytes. A bit string has no
 // high plane: `high` is 0, and what is read there is not used. Two words are made before one is stored: so the compiler takes them at once.
+// No word is made twice: of the bytes after the last two words, eight at most are in one word. It is compiled into its callers, where `m` is
+// a literal.
+#[inline(always)]
 pub fn combine_words<O: Operation>(op: O, a: &[u8], high: usize, b: &[u8], m: usize, out: &mut [u8])
     requires { (8 ≤ m) × (m ≡ length out.old / 2) × (m ≤ length a.now) × (high + m ≤ length a.now) × (m + m ≤ length b.now) }
     ensures { out.new ≡
         pack_trits (length out.old / 2) (result_trit (O.trit op) high (length out.old / 2) a.now b.now)
         ++ drop (2 * (length out.old / 2)) out.old }
 {
-    for k in 0..m.div_ceil(16) {
-        let p = (16 * k).min(m - 8);
-        let q = (16 * k + 8).min(m - 8);
-        let first = op.apply(word_trits(a, high, p), word_trits(b, m, p));
-        let second = op.apply(word_trits(a, high, q), word_trits(b, m, q));
-        put_trits(out, m, p, first);
-        put_trits(out, m, q, second);
+    for k in 0..m / 16 {
+        let first = combined_word(op, a, high, b, m, 16 * k);
+        let second = combined_word(op, a, high, b, m, 16 * k + 8);
+        put_trits(out, m, 16 * k, first);
+        put_trits(out, m, 16 * k + 8, second);
     }
+    let rest = m % 16;
+    if 8 < rest {
+        let next = combined_word(op, a, high, b, m, m - rest);
+        let last = combined_word(op, a, high, b, m, m - 8);
+        put_trits(out, m, m - rest, next);
+        put_trits(out, m, m - 8, last);
+    } else if rest != 0 {
+        let only = combined_word(op, a, high, b, m, m - 8);
+        put_trits(out, m, m - 8, only);
+    }
+}
+
+// The same for any size: apart from `combine`, where the compiler would take the words one by one.
+#[inline(never)]
+fn combine_any_words<O: Operation>(op: O, a: &[u8], high: usize, b: &[u8], m: usize, out: &mut [u8])
+    requires { (8 ≤ m) × (m ≡ length out.old / 2) × (m ≤ length a.now) × (high + m ≤ length a.now) × (m + m ≤ length b.now) }
+    ensures { out.new ≡
+        pack_trits (length out.old / 2) (result_trit (O.trit op) high (length out.old / 2) a.now b.now)
+        ++ drop (2 * (length out.old / 2)) out.old }
+{
+    combine_words(op, a, high, b, m, out);
 }
 
 // The same byte by byte, of strings of any length.
@@ -73,7 +104,7 @@ pub fn combine<O: Operation>(op: O, a: &[u8], high: usize, b: &[u8], m: usize, o
         ++ drop (2 * (length out.old / 2)) out.old }
 {
     if 8 <= m && high + m <= a.len() && 2 * m <= b.len() {
-        combine_words(op, a, high, b, m, out);
+        combine_any_words(op, a, high, b, m, out);
     } else {
         combine_bytes(op, a, high, b, m, out);
     }

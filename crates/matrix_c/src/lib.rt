@@ -4,13 +4,12 @@
 ghost use Rattle.std.specs.Prelude.{◌≡◌};
 ghost use Rattle.matrix_model.specs.File.{check_number};
 
-use matrix::file;
-use numbers::refusal::answer_number;
+use matrix::interface;
 
 // The number of a file, and no more.
 #[unsafe(no_mangle)]
 pub extern "C" fn matrix_check(set: u32, file: &[u8]) -> u32
     ensures { result ≡ check_number set file.now }
 {
-    answer_number(file::matrix_check(set, file))
+    interface::matrix_check(set, file)
 }

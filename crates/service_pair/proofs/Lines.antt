@@ -1,4 +1,4 @@
--- Laws of what is printed: the line of a number, of the digits that `io::decimal` writes, and the line of a code behind it.
+-- Laws of what is printed: the line of a number, of the digits that `itoa` writes, and the line of a code behind it.
 use mathlib.Core.Path.{◌≡◌, refl, sym, ap, ◌∙◌}
 use mathlib.Core.Logic.{◌≢◌}
 use mathlib.Core.List.{List, [], ◌∷◌, ◌++◌, append_assoc, append-nil}

@@ -1,4 +1,5 @@
-// The reader of pairs: a source and the place of the next pair of bits. Whoever has only a place takes pairs by `pair_from` and `four_from`.
+// The reader of pairs: a source and the place of the next pair of bits, which it takes by `pair_from` and `four_from`, as does whoever has only a
+// place.
 ghost use Rattle.std.specs.Prelude.{◌≡◌, ◌+◌, ◌*◌, ◌%◌, ◌^◌, ◌<◌, ◌≤◌, length, get_or, nat_lt};
 ghost use Rattle.source_model.specs.Internal.Reading.{pairs, PairRead, PairsRead};
 
@@ -72,19 +73,15 @@ impl<'a> PairReader<'a> {
         !self.source.is_empty() && self.byte < self.source.len() - 1
     }
 
-    // Takes the next pair. Where no place could name the one after it, the reader stays.
+    // Takes the next pair.
     pub(crate) fn take(&mut self) -> u8
         ensures source { self.new.source ≡ self.old.source }
         ensures read { PairRead self.old.source.now (4 * self.old.byte + self.old.pair) result self.new.byte self.new.pair }
     {
-        let value = self.peek(1);
-        if self.pair < 3 {
-            self.pair += 1;
-        } else if self.byte < usize::MAX {
-            self.byte += 1;
-            self.pair = 0;
-        }
-        value
+        let read = pair_from(self.source, self.byte, self.pair);
+        self.byte = read.byte;
+        self.pair = read.pair;
+        read.value
     }
 
     // The same of four pairs at once: the reader stands at the same place of the next byte then.
@@ -92,36 +89,48 @@ impl<'a> PairReader<'a> {
         ensures source { self.new.source ≡ self.old.source }
         ensures read { PairsRead self.old.source.now 4 (4 * self.old.byte + self.old.pair) result self.new.byte self.new.pair }
     {
-        let value = self.peek(4);
-        if self.byte < usize::MAX {
-            self.byte += 1;
-        }
-        value
+        let read = four_from(self.source, self.byte, self.pair);
+        self.byte = read.byte;
+        self.pair = read.pair;
+        read.value
     }
 }
 
-// The pair at a place of a source, also past its end, and the place after it.
+// The pair at a place of a source, also past its end, and the place after it. Where no place could name that, it is its own.
 pub fn pair_from(source: &[u8], byte: usize, at: usize) -> PairAndPlace
     ensures { PairRead source.now (4 * byte + at % 4) result.value result.byte result.pair }
 {
-    let mut reader = PairReader::at(source, byte, at % 4);
-    let value = reader.take();
-    PairAndPlace {
-        value,
-        byte: reader.byte,
-        pair: reader.pair,
+    let pair = at % 4;
+    let value = PairReader::at(source, byte, pair).peek(1);
+    if pair < 3 {
+        return PairAndPlace {
+            value,
+            byte,
+            pair: pair + 1,
+        };
     }
+    if byte < usize::MAX {
+        return PairAndPlace {
+            value,
+            byte: byte + 1,
+            pair: 0,
+        };
+    }
+    PairAndPlace { value, byte, pair }
 }
 
 // The same of four pairs at once, a whole byte of the source if the place is its first pair.
 pub fn four_from(source: &[u8], byte: usize, at: usize) -> PairAndPlace
     ensures { PairsRead source.now 4 (4 * byte + at % 4) result.value result.byte result.pair }
 {
-    let mut reader = PairReader::at(source, byte, at % 4);
-    let value = reader.take_four();
-    PairAndPlace {
-        value,
-        byte: reader.byte,
-        pair: reader.pair,
+    let pair = at % 4;
+    let value = PairReader::at(source, byte, pair).peek(4);
+    if byte < usize::MAX {
+        return PairAndPlace {
+            value,
+            byte: byte + 1,
+            pair,
+        };
     }
+    PairAndPlace { value, byte, pair }
 }

@@ -23,10 +23,11 @@ use Rattle.numbers.specs.Number.{first}
 use Rattle.numbers.specs.Refusals.{number_of}
 use Rattle.numbers.specs.declared.refusal.Refusal.{Refusal}
 use Rattle.numbers.proofs.Numbers.{holds, is_false}
+use Rattle.numbers.proofs.Refusals.{refused as refused_some}
 use Rattle.matrix_model.specs.Block.{Layout}
 use Rattle.matrix_model.specs.File.{Fits, fit_row, row_plane_of, bad_trit_of, tied_rows_of, row_faults_of, layout_of}
 use Rattle.matrix_model.specs.Ties.{tie_of}
-use Rattle.matrix_model.specs.Internal.Rows.{nonzero_row, zero_row_of, rows_answer, plane_words, carrying_words, Eliminable, CarryingRoom, tied_in_columns}
+use Rattle.matrix_model.specs.Internal.Rows.{nonzero_row, zero_row_of, rows_number, rows_answer, plane_words, carrying_words, Eliminable, CarryingRoom, tied_in_columns}
 use Rattle.matrix_model.proofs.Internal.Rows.{trit-take}
 use Rattle.matrix_model.proofs.Internal.RowNumbers.{Among, same_row, accepted, refused}
 
@@ -38,17 +39,33 @@ zero_rows-tied layout rows e =
     let f = fails_somewhere layout.row_count (nonzero_row layout rows) (holds _ e) in
     zero_row_tied m layout.row_count rows f.0 f.1 (not-false (zero_trits m 0 (rows_from m rows f.0)) (is_false _ f.2))
 
--- the number by two tests: of trits, and of tied rows
-abbrev number_by : Bool → Bool → ℕ
+-- the number by two tests: of trits, and of a zero row or of tied rows
+abbrev pub number_by : Bool → Bool → ℕ
 number_by unfit tied = cond unfit 10 (cond tied 12 0)
 
+-- a number of the tests of each row is that of the rows: a zero row has tied rows'
+number_each : (u z t : Bool) → (z ≡ true → t ≡ true) → (number_by u z ≡ 0 → ⊥) → number_by u z ≡ number_by u t
+number_each true z t h n = refl
+number_each false true t h n = ap (λ (b : Bool). cond b 12 0) (sym (h refl))
+number_each false false t h n = absurd (n refl)
+
 module _ (layout : Layout) (rows : List ℕ) where
-  -- where the tests of each row refuse, the rows are refused
-  pub judged_unfit : {refusal : Refusal} → rows_answer layout layout.row_count rows ≡ Err refusal → number_of refusal ≡ first (row_faults_of layout rows)
-  unfolding first row_faults_of bad_trit_of rows_answer
-  judged_unfit {refusal} e =
-      let h = refused (every layout.row_count (fit_row layout rows)) _ refusal e in
-      rw (h.0, ← h.1)
+  -- where the tests of each row give a number, it is that of the rows
+  pub judged_each : {number : ℕ} → number ≡ rows_number layout layout.row_count rows → (number ≡ 0 → ⊥) → number ≡ first (row_faults_of layout rows)
+  unfolding first row_faults_of bad_trit_of zero_row_of rows_number
+  judged_each e n =
+      e ∙ number_each (bad_trit_of layout rows) (zero_row_of layout rows) (tied_rows_of layout rows) (zero_rows-tied layout rows) (λ z. n (e ∙ z))
+
+  -- so where they refuse, the rows are refused
+  module _ {refusal : Refusal} (e : rows_answer layout layout.row_count rows ≡ Err refusal) where
+    unfit_number : number_of refusal ≡ rows_number layout layout.row_count rows
+    unfolding first rows_number rows_answer
+    unfit_number =
+        let h = refused (every layout.row_count (fit_row layout rows)) _ refusal e in
+        rw (h.0, ← h.1)
+
+    pub judged_unfit : number_of refusal ≡ first (row_faults_of layout rows)
+    judged_unfit = judged_each unfit_number (refused_some refusal refl)
 
   -- where they accept, a zero row is a case of tied rows
   module _ {zero : Bool} (e : rows_answer layout layout.row_count rows ≡ Ok zero) where
@@ -56,11 +73,14 @@ module _ (layout : Layout) (rows : List ℕ) where
     unfolding rows_answer
     fit = (accepted (every layout.row_count (fit_row layout rows)) _ zero e).0
 
-    pub judged_zero : zero ≡ true → 12 ≡ first (row_faults_of layout rows)
-    unfolding first row_faults_of bad_trit_of rows_answer zero_row_of
-    judged_zero z =
+    zero_number : zero ≡ true → 12 ≡ rows_number layout layout.row_count rows
+    unfolding first rows_number rows_answer
+    zero_number z =
         let h = accepted (every layout.row_count (fit_row layout rows)) _ zero e in
-        rw (fit, zero_rows-tied layout rows (h.1 ∙ z))
+        rw (fit, h.1 ∙ z)
+
+    pub judged_zero : zero ≡ true → 12 ≡ first (row_faults_of layout rows)
+    judged_zero z = judged_each (zero_number z) (λ n. omega (arith, n))
 
     -- and else the test of all rows together decides
     pub judged_together : {independent : Bool} → independent ≡ not (tied_rows_of layout rows) → cond independent 0 12 ≡ first (row_faults_of layout rows)

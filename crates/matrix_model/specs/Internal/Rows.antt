@@ -20,7 +20,12 @@ nonzero_row layout rows i = not (zero_trits (row_plane_of layout) 0 (rows_from (
 unfoldable pub zero_row_of : Layout → List ℕ → Bool
 zero_row_of layout rows = not (every layout.row_count (nonzero_row layout rows))
 
--- the answer to the first n of these rows by the tests of each row: a trit with both bits set is refused, and else whether a row is all zero
+-- the number of the first n of these rows by the tests of each row: 12 stands for a zero row alone, and other ties are not tested
+unfoldable pub rows_number : Layout → ℕ → List ℕ → ℕ
+rows_number layout n rows =
+    first ((10 when not (every n (fit_row layout rows))) ∷ (12 when not (every n (nonzero_row layout rows))) ∷ [])
+
+-- the answer to them, as the code gives it: a trit with both bits set is refused, and else whether a row is all zero
 unfoldable pub rows_answer : Layout → ℕ → List ℕ → Result Bool Refusal
 rows_answer layout n rows =
     cond (every n (fit_row layout rows)) (Ok (not (every n (nonzero_row layout rows)))) (Err UnfitTrit)

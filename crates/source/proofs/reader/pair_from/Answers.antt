@@ -1,7 +1,19 @@
--- `source::reader::pair_from` meets its contract: one pair of several.
+-- `source::reader::pair_from` meets its contract: one pair on, but none where no place could name that.
+use native.Mathlib.Omega.{arith}
+use Rattle.source_model.proofs.Pairs.{after-pairs, after_none, pair_read}
 use Rattle.source.proofs.reader.pair_from.Goals as goal
+
+pub returns-then-pair-lt3 : goal.returns-then-pair-lt3
+returns-then-pair-lt3 c =
+    let e = c.at.ensures in
+    pair_read (record { value_is = rw (e.0, e.1, e.2) at c.peek-value.ensures; place = omega arith; next = after-pairs _ _ _ (omega arith) (omega arith) }) (omega arith)
+
+pub returns-then-byte-lt18446744073709551615 : goal.returns-then-byte-lt18446744073709551615
+returns-then-byte-lt18446744073709551615 c =
+    let e = c.at.ensures in
+    pair_read (record { value_is = rw (e.0, e.1, e.2) at c.peek-value.ensures; place = omega arith; next = after-pairs _ _ _ (omega arith) (omega arith) }) (omega arith)
 
 pub returns : goal.returns
 returns c =
-    let e = c.at-reader.ensures in
-    rw (← e.0, ← e.1, ← e.2) c.take-value.ensures.read
+    let e = c.at.ensures in
+    pair_read (record { value_is = rw (e.0, e.1, e.2) at c.peek-value.ensures; place = omega arith; next = after_none _ _ _ (omega arith) (omega arith) }) (omega arith)

@@ -1,16 +1,10 @@
--- `source::reader::PairReader::take` meets its contract: one pair on, but none where no place could name that.
+-- `source::reader::PairReader::take` meets its contract: it does what `pair_from` does at the reader's place, whose pair is one of a byte.
+use mathlib.Core.Path.{◌≡◌}
+use Prim.Native.Nat.{◌%◌}
 use native.Mathlib.Omega.{arith}
-use Rattle.source_model.proofs.Pairs.{after-pairs, after_none, pair_read}
 use Rattle.source.proofs.reader.PairReader.take.Goals as goal
 
-pub returns-then-self-lt3-clause-read : goal.returns-then-self-lt3-clause-read
-returns-then-self-lt3-clause-read c =
-    pair_read (record { value_is = c.peek-value.ensures; place = omega arith; next = after-pairs _ _ _ (omega arith) (omega arith) }) (omega arith)
-
-pub returns-then-self-lt18446744073709551615-clause-read : goal.returns-then-self-lt18446744073709551615-clause-read
-returns-then-self-lt18446744073709551615-clause-read c =
-    pair_read (record { value_is = c.peek-value.ensures; place = omega arith; next = after-pairs _ _ _ (omega arith) (omega arith) }) (omega arith)
-
-pub returns-else-self-lt18446744073709551615-clause-read : goal.returns-else-self-lt18446744073709551615-clause-read
-returns-else-self-lt18446744073709551615-clause-read c =
-    pair_read (record { value_is = c.peek-value.ensures; place = omega arith; next = after_none _ _ _ (omega arith) (omega arith) }) (omega arith)
+pub returns-clause-read : goal.returns-clause-read
+returns-clause-read c =
+    let e : c.args.self.now.pair % 4 ≡ c.args.self.now.pair = omega arith in
+    rw e at c.pair_from-read.ensures

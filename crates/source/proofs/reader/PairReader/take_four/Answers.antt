@@ -1,12 +1,10 @@
--- `source::reader::PairReader::take_four` meets its contract: four pairs on, but none where no place could name that.
+-- `source::reader::PairReader::take_four` meets its contract: it does what `four_from` does at the reader's place, whose pair is one of a byte.
+use mathlib.Core.Path.{◌≡◌}
+use Prim.Native.Nat.{◌%◌}
 use native.Mathlib.Omega.{arith}
-use Rattle.source_model.proofs.Pairs.{after-pairs, after_none}
 use Rattle.source.proofs.reader.PairReader.take_four.Goals as goal
 
-pub returns-then-self-lt18446744073709551615-clause-read : goal.returns-then-self-lt18446744073709551615-clause-read
-returns-then-self-lt18446744073709551615-clause-read c =
-    record { value_is = c.peek-value.ensures; place = omega arith; next = after-pairs _ _ _ (omega arith) (omega arith) }
-
-pub returns-else-self-lt18446744073709551615-clause-read : goal.returns-else-self-lt18446744073709551615-clause-read
-returns-else-self-lt18446744073709551615-clause-read c =
-    record { value_is = c.peek-value.ensures; place = omega arith; next = after_none _ _ _ (omega arith) (omega arith) }
+pub returns-clause-read : goal.returns-clause-read
+returns-clause-read c =
+    let e : c.args.self.now.pair % 4 ≡ c.args.self.now.pair = omega arith in
+    rw e at c.four_from-read.ensures
